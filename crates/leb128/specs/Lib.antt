@@ -1,0 +1,5 @@
+pub mod Answer
+pub mod Number
+pub mod Form
+pub mod Scan
+pub mod Laws
