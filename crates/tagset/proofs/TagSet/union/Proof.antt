@@ -1,0 +1,25 @@
+-- `union` meets its contract: the code builds the four words of the definition.
+-- Each `λ c. lit< tt` answers for the read of a word: its index is a constant below 4. Assumes nothing.
+use mathlib.Core.Path.{refl}
+use lib.Dec.{lit<}
+use Rattle.tagset.specs.Set.{unionOf}
+use Rattle.tagset.proofs.TagSet.union.Statement.{statement}
+use Rattle.tagset.proofs.TagSet.union.Tie as tie
+
+returns : tie.Need-returns
+unfolding unionOf
+returns c = refl
+
+pub union-spec : {M : Type 1} → statement M
+union-spec =
+    tie.close
+    (tie.spec
+    (λ c. lit< tt)
+    (λ c. lit< tt)
+    (λ c. lit< tt)
+    (λ c. lit< tt)
+    (λ c. lit< tt)
+    (λ c. lit< tt)
+    (λ c. lit< tt)
+    (λ c. lit< tt)
+    returns)

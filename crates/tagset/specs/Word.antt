@@ -1,0 +1,195 @@
+-- A set of tags word by word: what its words say of its tags, and what the code makes of the words.
+-- Assumes nothing.
+use mathlib.Core.Path.{_≡_, refl, sym, ap, ap₂, _∙_, subst}
+use mathlib.Core.Bool.{Bool, true, false, _&&_, Bool·beq}
+use mathlib.Core.List.{List, [], _∷_}
+use Prim.Native.Nat.{ℕ, zero, suc, _+_, _*_, _-_, _/_, _%_, _^_, _≤_, _<_}
+use native.Mathlib.Nat.{mod-lt, sub-zero, one-mul, mod-eq-of-lt, div-add-mod', min-eq-left, min-eq-right, sub-eq-zero-of-le, le-of-lt}
+use native.Mathlib.Omega.{arith}
+use lib.Arith.{digits-div, digits-mod}
+use lib.Bits.{bitAnd, and-lt, and-mask}
+use lib.Dec.{eqb, lit<}
+use lib.ListN.{getD, set, length}
+use lib.Pow.{pow-lt, pow-pos}
+use mir.Syntax.{w64}
+use mir.Val.{Fits}
+use borrow.Table.Steps.{cases}
+use Rattle.tagset.specs.declared.TagSet.{TagSet}
+use Rattle.tagset.specs.Below.{allBelow, all-at, all-make}
+use Rattle.tagset.specs.Bit.{bitAt, bit-and, bits-ext}
+use Rattle.tagset.specs.Set.{wordAt, hasW, has, singleOf, lowOnes, belowOf, wordwise, implies, subsetOf, sameOf, Words}
+
+-- four words of 0
+abbrev pub zeros : List ℕ
+zeros = 0 ∷ 0 ∷ 0 ∷ 0 ∷ []
+
+-- what holds of each of the four words, and past them, holds of every word
+pub each-word : (P : ℕ → Type 0) → P 0 → P 1 → P 2 → P 3 → ((i : ℕ) → P (suc (suc (suc (suc i))))) → (i : ℕ) → P i
+each-word P p q r s f zero = p
+each-word P p q r s f (suc zero) = q
+each-word P p q r s f (suc (suc zero)) = r
+each-word P p q r s f (suc (suc (suc zero))) = s
+each-word P p q r s f (suc (suc (suc (suc i)))) = f i
+
+-- a word of the four stands in the list, and past them a word is 0
+pub word-near : (ws : List ℕ) (i : ℕ) → i < 4 → wordAt ws i ≡ getD ws i 0
+word-near ws = each-word (λ i. i < 4 → wordAt ws i ≡ getD ws i 0) (λ h. refl) (λ h. refl) (λ h. refl) (λ h. refl) (λ i h. absurd (omega arith))
+
+pub word-far : (ws : List ℕ) (i : ℕ) → 4 ≤ i → wordAt ws i ≡ 0
+word-far ws =
+    each-word (λ i. 4 ≤ i → wordAt ws i ≡ 0) (λ h. absurd (omega arith)) (λ h. absurd (omega arith)) (λ h. absurd (omega arith))
+    (λ h. absurd (omega arith)) (λ i h. refl)
+
+-- tag q * 64 + k, k below 64, is bit k of word q
+pub tag-at : (ws : List ℕ) (q k : ℕ) → k < 64 → hasW ws (q * 64 + k) ≡ bitAt (wordAt ws q) k
+unfolding hasW
+tag-at ws q k h = ap₂ (λ (i j : ℕ). bitAt (wordAt ws i) j) (digits-div q h) (digits-mod q h)
+
+-- what holds of bit k of word q, for every q and k, holds of every tag
+pub by-tag : (P : ℕ → Type 0) → ((q k : ℕ) → k < 64 → P (q * 64 + k)) → (t : ℕ) → P t
+by-tag P h t = subst P (div-add-mod' t 64) (h (t / 64) (t % 64) (mod-lt t (lit< tt)))
+
+-- an operation that works bit by bit, word by word, works tag by tag
+pub wordwise-has : (f : ℕ → ℕ → ℕ) (g : Bool → Bool → Bool) → f 0 0 ≡ 0 → ((x y k : ℕ) → bitAt (f x y) k ≡ g (bitAt x k) (bitAt y k))
+    → (a b : TagSet) (t : ℕ) → has (wordwise f a b) t ≡ g (has a t) (has b t)
+unfolding hasW
+wordwise-has f g z e a b t =
+    ap (λ (w : ℕ). bitAt w (t % 64)) (word (t / 64)) ∙ e (wordAt (a .words) (t / 64)) (wordAt (b .words) (t / 64)) (t % 64)
+  where
+    word : (q : ℕ) → wordAt (wordwise f a b .words) q ≡ f (wordAt (a .words) q) (wordAt (b .words) q)
+    word = each-word (λ q. wordAt (wordwise f a b .words) q ≡ f (wordAt (a .words) q) (wordAt (b .words) q)) refl refl refl refl (λ q. sym z)
+
+-- the words of a set of the code, as its types give them
+pub words-of : (s : TagSet) → length (s .words) ≡ 4 → ((i : ℕ) → Fits w64 (getD (s .words) i 0)) → Words s
+words-of s l f = record { four = l; fits = λ i. f i .fits }
+
+-- each of them is of 64 bits
+pub word-fits : (s : TagSet) → Words s → (q : ℕ) → wordAt (s .words) q < 2 ^ 64
+word-fits s h = each-word (λ q. wordAt (s .words) q < 2 ^ 64) (h .fits 0) (h .fits 1) (h .fits 2) (h .fits 3) (λ q. lit< tt)
+
+-- the test of two truth values passes where they are the same
+pub beq-self : (x : Bool) → Bool·beq x x ≡ true
+beq-self true = refl
+beq-self false = refl
+
+pub beq-true : (x y : Bool) → Bool·beq x y ≡ true → x ≡ y
+beq-true true true e = refl
+beq-true false false e = refl
+beq-true true false e = sym e
+beq-true false true e = e
+
+-- words q of two sets are related
+abbrev pub At : (ℕ → ℕ → Type 0) → TagSet → TagSet → ℕ → Type 0
+At R a b q = R (wordAt (a .words) q) (wordAt (b .words) q)
+
+-- r tests bit by bit whether two words are related by R
+record Tests (r : Bool → Bool → Bool) (R : ℕ → ℕ → Type 0) : Type 0 where
+  none : R 0 0
+  bits : (x y k : ℕ) → R x y → r (bitAt x k) (bitAt y k) ≡ true
+  back : (x y : ℕ) → x < 2 ^ 64 → y < 2 ^ 64 → ((k : ℕ) → k < 64 → r (bitAt x k) (bitAt y k) ≡ true) → R x y
+
+module _ (r : Bool → Bool → Bool) (R : ℕ → ℕ → Type 0) (T : Tests r R) (a b : TagSet) where
+  -- words that are related have tags that pass
+  tests-pass : At R a b 0 → At R a b 1 → At R a b 2 → At R a b 3 → allBelow 256 (λ t. r (has a t) (has b t)) ≡ true
+  unfolding hasW
+  tests-pass h0 h1 h2 h3 =
+      all-make 256 (λ t. r (has a t) (has b t))
+      (λ t l. T .bits (wordAt (a .words) (t / 64)) (wordAt (b .words) (t / 64)) (t % 64) (each-word (At R a b) h0 h1 h2 h3 (λ i. T .none) (t / 64)))
+
+  -- tags that all pass are of words that are related
+  tests-back : Words a → Words b → allBelow 256 (λ t. r (has a t) (has b t)) ≡ true → (q : ℕ) → q < 4 → At R a b q
+  tests-back ha hb e q l =
+      T .back (wordAt (a .words) q) (wordAt (b .words) q) (word-fits a ha q) (word-fits b hb q) (λ k g.
+      ap₂ r (sym (tag-at (a .words) q k g)) (sym (tag-at (b .words) q k g))
+      ∙ all-at 256 (λ t. r (has a t) (has b t)) e (q * 64 + k) (omega arith))
+
+  -- so a word that is not related has a tag that fails
+  tests-fail : Words a → Words b → (q : ℕ) → q < 4 → (At R a b q → ⊥) → allBelow 256 (λ t. r (has a t) (has b t)) ≡ false
+  tests-fail ha hb q l n = cases (allBelow 256 (λ t. r (has a t) (has b t))) (λ e. absurd (n (tests-back ha hb e q l))) (λ e. e)
+
+-- a word that has no bit which the other lacks
+abbrev pub Within : ℕ → ℕ → Type 0
+Within x y = bitAnd x y ≡ x
+
+tests-within : Tests implies Within
+tests-within = record {
+  none = refl;
+  bits = λ x y k e. implied (bitAt x k) (bitAt y k) (sym (bit-and x y k) ∙ ap (λ (w : ℕ). bitAt w k) e);
+  back = λ x y hx hy h. bits-ext 64 (bitAnd x y) x (and-lt 64 x y hx hy) hx (λ k l. bit-and x y k ∙ kept (bitAt x k) (bitAt y k) (h k l));
+}
+  where
+    implied : (x y : Bool) → x && y ≡ x → implies x y ≡ true
+    implied true y e = e
+    implied false y e = refl
+
+    kept : (x y : Bool) → implies x y ≡ true → x && y ≡ x
+    kept true y e = e
+    kept false y e = refl
+
+-- a word that is the other
+abbrev pub Same : ℕ → ℕ → Type 0
+Same x y = x ≡ y
+
+tests-same : Tests Bool·beq Same
+tests-same = record {
+  none = refl;
+  bits = λ x y k e. ap (λ (w : ℕ). Bool·beq (bitAt x k) (bitAt w k)) (sym e) ∙ beq-self (bitAt x k);
+  back = λ x y hx hy h. bits-ext 64 x y hx hy (λ k l. beq-true (bitAt x k) (bitAt y k) (h k l));
+}
+
+-- a subset, as the code tests it
+pub subset-pass : (a b : TagSet) → At Within a b 0 → At Within a b 1 → At Within a b 2 → At Within a b 3 → subsetOf a b ≡ true
+unfolding subsetOf
+subset-pass = tests-pass implies Within tests-within
+
+pub subset-fail : (a b : TagSet) → Words a → Words b → (q : ℕ) → q < 4 → (At Within a b q → ⊥) → subsetOf a b ≡ false
+unfolding subsetOf
+subset-fail = tests-fail implies Within tests-within
+
+-- the same tags, as the code tests them
+pub same-pass : (a b : TagSet) → At Same a b 0 → At Same a b 1 → At Same a b 2 → At Same a b 3 → sameOf a b ≡ true
+unfolding sameOf
+same-pass = tests-pass Bool·beq Same tests-same
+
+pub same-fail : (a b : TagSet) → Words a → Words b → (q : ℕ) → q < 4 → (At Same a b q → ⊥) → sameOf a b ≡ false
+unfolding sameOf
+same-fail = tests-fail Bool·beq Same tests-same
+
+pub same-words : (a b : TagSet) → Words a → Words b → sameOf a b ≡ true → (q : ℕ) → q < 4 → At Same a b q
+unfolding sameOf
+same-words = tests-back Bool·beq Same tests-same
+
+-- a tag below 256, as the code tests it
+pub has-near : (s : TagSet) (t : ℕ) → t < 256 → has s t ≡ eqb (bitAnd (getD (s .words) (t / 64) 0 / 2 ^ (t % 64)) 1) 1
+unfolding hasW bitAt
+has-near s t h =
+    ap (λ (w : ℕ). bitAt w (t % 64)) (word-near (s .words) (t / 64) (omega arith))
+    ∙ ap (λ (x : ℕ). eqb x 1) (sym (and-mask (getD (s .words) (t / 64) 0 / 2 ^ (t % 64)) 1))
+
+-- a shift of 1 by less than 64 loses nothing, and leaves no 0
+shifted : (k : ℕ) → k < 64 → 1 * 2 ^ k % 2 ^ 64 ≡ 2 ^ k
+shifted k h = ap (λ (x : ℕ). x % 2 ^ 64) (one-mul (2 ^ k)) ∙ mod-eq-of-lt (pow-lt h)
+
+pub shifted-pos : (k : ℕ) → k < 64 → 1 ≤ 1 * 2 ^ k % 2 ^ 64
+shifted-pos k h = subst (λ (x : ℕ). 1 ≤ x) (sym (shifted k h)) (pow-pos k)
+
+-- the set of one tag, as the code makes it
+pub single-made : (t : ℕ) → record { words = set zeros (t / 64) (1 * 2 ^ (t % 64) % 2 ^ 64) } ≡ singleOf t
+unfolding singleOf
+single-made t = ap {B = TagSet} (λ (v : ℕ). record { words = set zeros (t / 64) v }) (shifted (t % 64) (mod-lt t (lit< tt)))
+
+-- a word of low ones, as the code makes it: none, all, or some
+pub low-none : (n m : ℕ) → n ≤ m → 0 ≡ lowOnes (n - m)
+low-none n m h = ap lowOnes (sym (sub-eq-zero-of-le h))
+
+pub low-all : (k : ℕ) → 64 ≤ k → 2 ^ 64 - 1 ≡ lowOnes k
+low-all k h = ap (λ (x : ℕ). 2 ^ x - 1) (sym (min-eq-right h))
+
+pub low-some : (k : ℕ) → k < 64 → 1 * 2 ^ k % 2 ^ 64 - 1 ≡ lowOnes k
+low-some k h = ap (λ (x : ℕ). x - 1) (shifted k h) ∙ ap (λ (x : ℕ). 2 ^ x - 1) (sym (min-eq-left (le-of-lt h)))
+
+-- the tags below n, as the code makes them
+pub below-made : (n : ℕ) {x y z w : ℕ} → x ≡ lowOnes (n - 0) → y ≡ lowOnes (n - 64) → z ≡ lowOnes (n - 128) → w ≡ lowOnes (n - 192)
+    → record { words = x ∷ y ∷ z ∷ w ∷ [] } ≡ belowOf n
+unfolding belowOf
+below-made n p q r s = λ i. record { words = (p ∙ ap lowOnes (sub-zero n)) i ∷ q i ∷ r i ∷ s i ∷ [] }
