@@ -1,0 +1,182 @@
+// Runs the samples on numbers and tag sets, a line each. What it must print stands in the file stdout.
+use leb128::Decoded;
+use tagset::TagSet;
+
+fn main() {
+    numbers();
+    refusals();
+    widths();
+    sets();
+}
+
+// The numbers of document 01's samples, as they are written.
+fn numbers() {
+    number_line(127);
+    number_line(128);
+    number_line(4294967295);
+}
+
+// The bytes of document 01's samples that are refused.
+fn refusals() {
+    let zero_last = [128u8, 0];
+    bytes_line(&zero_last);
+    let fifth_16 = [255u8, 255, 255, 255, 16];
+    bytes_line(&fifth_16);
+    let cut = [128u8];
+    bytes_line(&cut);
+}
+
+fn number_line(v: u64) {
+    text(b"number ");
+    decimal(v);
+    text(b":");
+    let mut out = [0u8; 10];
+    leb128::encode(&mut out, 0, v);
+    spaced_bytes(&out, leb128::encoded_len(v));
+    text(b"\n");
+}
+
+fn bytes_line(s: &[u8]) {
+    text(b"bytes");
+    spaced_bytes(s, s.len());
+    text(b": ");
+    reading(leb128::decode(s, 0, 32), 0);
+    text(b"\n");
+}
+
+// The first n bytes, with a space before each.
+fn spaced_bytes(s: &[u8], n: usize) {
+    let mut i = 0;
+    while i < s.len() {
+        if n <= i {
+            return;
+        }
+        spaced(byte(s[i]));
+        i += 1;
+    }
+}
+
+fn byte(b: u8) -> u64 {
+    b as u64
+}
+
+fn spaced(n: u64) {
+    text(b" ");
+    decimal(n);
+}
+
+// Each width from 0, and one above 64, which counts as 64.
+fn widths() {
+    let mut width = 0;
+    while width < 66 {
+        width_line(width);
+        width += 1;
+    }
+}
+
+// The largest number of a width, and the next one, written and read at that width.
+fn width_line(width: u32) {
+    text(b"width ");
+    decimal(width as u64);
+    text(b": ");
+    let most = largest(width);
+    there_and_back(most, width);
+    if most < 18446744073709551615 {
+        text(b", ");
+        there_and_back(most + 1, width);
+    }
+    text(b"\n");
+}
+
+fn largest(width: u32) -> u64 {
+    if width == 0 {
+        return 0;
+    }
+    if 64 <= width {
+        return 18446744073709551615;
+    }
+    18446744073709551615 >> (64 - width)
+}
+
+fn there_and_back(v: u64, width: u32) {
+    let mut out = [0u8; 10];
+    leb128::encode(&mut out, 0, v);
+    reading(leb128::decode(&out, 0, width), v);
+}
+
+// What was read, or the refusal behind the number that was tried.
+fn reading(r: Decoded, tried: u64) {
+    match r {
+        Decoded::Value(v, _) => {
+            decimal(v);
+            text(b" read");
+        }
+        Decoded::Truncated => refusal(1, tried),
+        Decoded::Overlong => refusal(2, tried),
+    }
+}
+
+fn refusal(number: u64, tried: u64) {
+    if tried > 0 {
+        decimal(tried);
+        text(b" ");
+    }
+    text(b"refused ");
+    decimal(number);
+}
+
+fn sets() {
+    let first = TagSet::single(0)
+        .union(TagSet::single(63))
+        .union(TagSet::single(64));
+    let second = TagSet::single(64)
+        .union(TagSet::single(128))
+        .union(TagSet::single(255));
+    set_line(b"first:", first);
+    set_line(b"second:", second);
+    let union = first.union(second);
+    set_line(b"union:", union);
+    set_line(b"intersection:", first.intersection(second));
+    set_line(b"below 65:", TagSet::below(65));
+    set_line(b"none:", TagSet::empty());
+    yes_line(b"first is a part of union: ", first.is_subset(union));
+    yes_line(b"union is a part of first: ", union.is_subset(first));
+    yes_line(b"second names 255 or more: ", second.exceeds(255));
+    yes_line(b"second names 256 or more: ", second.exceeds(256));
+}
+
+fn set_line(name: &[u8], s: TagSet) {
+    text(name);
+    spaced_tags(s);
+    text(b" size ");
+    decimal(s.size() as u64);
+    text(b"\n");
+}
+
+// The tags, rising, with a space before each.
+fn spaced_tags(s: TagSet) {
+    let mut t: u32 = 0;
+    while t < 256 {
+        if s.contains(t) {
+            spaced(t as u64);
+        }
+        t += 1;
+    }
+}
+
+fn yes_line(question: &[u8], yes: bool) {
+    text(question);
+    if yes {
+        text(b"yes\n");
+    } else {
+        text(b"no\n");
+    }
+}
+
+fn text(s: &[u8]) {
+    io::write_all(libc::STDOUT_FILENO, s);
+}
+
+fn decimal(n: u64) {
+    io::print_decimal(libc::STDOUT_FILENO, n);
+}
