@@ -3,5 +3,7 @@ pub mod Number
 pub mod Form
 pub mod Scan
 pub mod ScanForm
+pub mod Refusals
+pub mod Output
 pub mod Laws
 pub mod Samples

@@ -1,10 +1,12 @@
 // Runs the samples on numbers and tag sets, a line each. What it must print stands in the file stdout.
 use leb128::Decoded;
+use leb128::Encoded;
 use tagset::TagSet;
 
 fn main() {
     numbers();
     refusals();
+    positions();
     widths();
     sets();
 }
@@ -24,6 +26,48 @@ fn refusals() {
     bytes_line(&fifth_16);
     let cut = [128u8];
     bytes_line(&cut);
+}
+
+// Positions up to the largest, in two bytes that are read and in an output of three places.
+fn positions() {
+    read_at_line(0);
+    read_at_line(1);
+    read_at_line(2);
+    read_at_line(18446744073709551615);
+    write_at_line(0);
+    write_at_line(1);
+    write_at_line(2);
+    write_at_line(18446744073709551615);
+}
+
+fn read_at_line(at: usize) {
+    text(b"bytes 5 6 at ");
+    decimal(at as u64);
+    text(b": ");
+    let s = [5u8, 6];
+    reading(leb128::decode(&s, at, 32), 0);
+    text(b"\n");
+}
+
+fn write_at_line(at: usize) {
+    text(b"128 into 7 7 7 at ");
+    decimal(at as u64);
+    text(b": ");
+    let mut out = [7u8; 3];
+    writing(leb128::encode(&mut out, at, 128));
+    text(b", leaves");
+    spaced_bytes(&out, 3);
+    text(b"\n");
+}
+
+fn writing(w: Encoded) {
+    match w {
+        Encoded::Next(p) => {
+            text(b"next ");
+            decimal(p as u64);
+        }
+        Encoded::ShortOutput => text(b"refused 10"),
+    }
 }
 
 fn number_line(v: u64) {
@@ -141,6 +185,8 @@ fn sets() {
     set_line(b"none:", TagSet::empty());
     yes_line(b"first is a part of union: ", first.is_subset(union));
     yes_line(b"union is a part of first: ", union.is_subset(first));
+    yes_line(b"first equals first: ", first.equals(first));
+    yes_line(b"first equals second: ", first.equals(second));
     yes_line(b"second names 255 or more: ", second.exceeds(255));
     yes_line(b"second names 256 or more: ", second.exceeds(256));
 }

@@ -10,22 +10,7 @@ use lib.Arith.{lt-of-le-ne}
 use lib.Dec.{eqb}
 use borrow.Table.Steps.{cases}
 use borrow.Author.Tests.{eqb-true, eqb-false, ne-eqb}
-
-abbrev pub one : Bool → ℕ
-one true = 1
-one false = 0
-
-unfoldable pub countBelow : ℕ → (ℕ → Bool) → ℕ
-countBelow zero f = 0
-countBelow (suc n) f = one (f n) + countBelow n f
-
-unfoldable pub allBelow : ℕ → (ℕ → Bool) → Bool
-allBelow zero f = true
-allBelow (suc n) f = f n && allBelow n f
-
-unfoldable pub anyBelow : ℕ → (ℕ → Bool) → Bool
-anyBelow zero f = false
-anyBelow (suc n) f = f n || anyBelow n f
+use Rattle.tagset.specs.Set.{one, countBelow, allBelow, anyBelow}
 
 -- what holds of each number below n + 1 holds of n, and of each below n
 last : {P : ℕ → Type 0} (n : ℕ) → ((k : ℕ) → k < suc n → P k) → P n

@@ -13,10 +13,7 @@ use lib.Pow.{pow-pos, pow-mono, pow-add, pow-lt, mod-pow-add, high, ones-lt, one
 use lib.Count.{ones, ones-cat}
 use borrow.Table.Steps.{cases}
 use borrow.Author.Tests.{eqb-true, eqb-false, ne-eqb, ltb-true, ltb-false}
-use Rattle.tagset.specs.Below.{one, countBelow}
-
-unfoldable pub bitAt : ℕ → ℕ → Bool
-bitAt w k = eqb (w / 2 ^ k % 2) 1
+use Rattle.tagset.specs.Set.{one, countBelow, bitAt}
 
 -- a number below 2 is 0 or 1
 digit : (P : ℕ → Type 0) → P 0 → P 1 → (d : ℕ) → d < 2 → P d

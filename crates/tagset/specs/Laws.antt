@@ -1,7 +1,7 @@
 -- The laws of sets of tags: members, the order, what is equal, the bounds of words, and sizes.
 -- Assumes nothing.
 use mathlib.Core.Path.{_≡_, refl, sym, ap, ap₂, _∙_}
-use mathlib.Core.Bool.{Bool, true, false, _&&_, _||_, not, Bool·beq, and-true, and-false, false≢true}
+use mathlib.Core.Bool.{Bool, true, false, _&&_, _||_, not, Bool·beq, and-true, and-false, and-comm, false≢true}
 use mathlib.Core.List.{List, [], _∷_}
 use Prim.Native.Nat.{ℕ, suc, _+_, _*_, _-_, _/_, _%_, _^_, _≤_, _<_, min}
 use native.Mathlib.Nat.{sub-zero, mod-lt, min-le-right, lt-of-lt-of-le, not-le-of-lt, zero-add}
@@ -13,11 +13,11 @@ use lib.ListN.{getD, set}
 use lib.Pow.{pow-lt, pow-mono, ones-lt}
 use lib.Seq.{set-out, getD-set-other, ext-getD}
 use borrow.Table.Steps.{cases}
-use borrow.Author.Tests.{eqb-true, eqb-false, eq-eqb, ne-eqb, ltb-true, ltb-false, leb-true, leb-false, lt-ltb, le-ltb, le-leb}
+use borrow.Author.Tests.{eqb-true, eqb-false, eq-eqb, ne-eqb, ltb-true, ltb-false, leb-true, leb-false, lt-ltb, le-ltb, le-leb, not-true}
 use Rattle.tagset.specs.declared.TagSet.{TagSet}
-use Rattle.tagset.specs.Below.{one, countBelow, and-both, count-cong, count-add, count-sum, count-none, none-counted, count-at, count-le, all-at, all-make, any-not-all, any-find, any-make}
-use Rattle.tagset.specs.Bit.{bitAt, bit-zero, bit-or, bit-and, bit-pow, bit-ones, ones-count}
-use Rattle.tagset.specs.Set.{wordAt, hasW, has, emptySet, singleOf, lowOnes, belowOf, wordwise, unionOf, intersectionOf, implies, subsetOf, sameOf, exceedsOf, sizeOf, Words}
+use Rattle.tagset.specs.Below.{and-both, count-cong, count-add, count-sum, count-none, none-counted, count-at, count-le, all-at, all-make, any-not-all, any-find, any-make}
+use Rattle.tagset.specs.Bit.{bit-zero, bit-or, bit-and, bit-pow, bit-ones, ones-count}
+use Rattle.tagset.specs.Set.{one, countBelow, bitAt, wordAt, hasW, has, emptySet, singleOf, lowOnes, belowOf, wordwise, unionOf, intersectionOf, implies, subsetOf, sameOf, exceedsOf, sizeOf, IsWords}
 use Rattle.tagset.specs.Word.{zeros, each-word, word-near, word-far, tag-at, by-tag, word-fits, wordwise-has, beq-true, beq-self, same-words}
 
 -- Members
@@ -129,6 +129,22 @@ subset-of-has a b h = all-make 256 (λ t. implies (has a t) (has b t)) (λ t l. 
     implied true y f = f refl
     implied false y f = refl
 
+-- what is and is not implied
+lacks : (x y : Bool) → x && not y ≡ not (implies x y)
+lacks true true = refl
+lacks true false = refl
+lacks false y = refl
+
+-- a set that is no subset has a tag that the other lacks
+pub not-subset-tag : (a b : TagSet) → subsetOf a b ≡ false → (t : ℕ) × (has a t ≡ true) × (has b t ≡ false)
+unfolding subsetOf
+not-subset-tag a b e =
+    let w =
+    any-find 256 (λ t. has a t && not (has b t))
+    (any-not-all 256 (λ t. has a t && not (has b t)) (λ t. implies (has a t) (has b t)) (λ t l. lacks (has a t) (has b t)) ∙ ap not e) in
+    let p = and-both (has a (w .0)) (not (has b (w .0))) (w .2) in
+    (w .0, p .0, not-true (has b (w .0)) (p .1))
+
 -- a set is a subset of itself
 pub subset-refl : (a : TagSet) → subsetOf a a ≡ true
 subset-refl a = subset-of-has a a (λ t h. h)
@@ -197,7 +213,7 @@ unfolding sameOf
 same-of-has a b h = all-make 256 (λ t. Bool·beq (has a t) (has b t)) (λ t l. ap (Bool·beq (has a t)) (sym (h t l)) ∙ beq-self (has a t))
 
 -- sets of four words that are found the same are one set
-pub same-eq : (a b : TagSet) → Words a → Words b → sameOf a b ≡ true → a ≡ b
+pub same-eq : (a b : TagSet) → IsWords a → IsWords b → sameOf a b ≡ true → a ≡ b
 same-eq a b ha hb e =
     ap {B = TagSet} (λ (ws : List ℕ). record { words = ws })
     (ext-getD 0 (a .words) (b .words) (ha .four ∙ sym (hb .four)) (λ i l.
@@ -209,11 +225,11 @@ pub same-of-eq : (a b : TagSet) → a ≡ b → sameOf a b ≡ true
 same-of-eq a b e = same-of-has a b (λ t l. ap (λ (s : TagSet). has s t) e)
 
 -- sets of four words with the same tags are one set
-pub ext : (a b : TagSet) → Words a → Words b → ((t : ℕ) → t < 256 → has a t ≡ has b t) → a ≡ b
+pub ext : (a b : TagSet) → IsWords a → IsWords b → ((t : ℕ) → t < 256 → has a t ≡ has b t) → a ≡ b
 ext a b ha hb h = same-eq a b ha hb (same-of-has a b h)
 
 -- sets of four words that are subsets of each other are one set
-pub subset-antisym : (a b : TagSet) → Words a → Words b → subsetOf a b ≡ true → subsetOf b a ≡ true → a ≡ b
+pub subset-antisym : (a b : TagSet) → IsWords a → IsWords b → subsetOf a b ≡ true → subsetOf b a ≡ true → a ≡ b
 subset-antisym a b ha hb p q = ext a b ha hb (λ t l. iff (has a t) (has b t) (subset-has a b p t) (subset-has b a q t))
 
 -- Tags of n or more
@@ -237,18 +253,12 @@ pub exceeds-below : (s : TagSet) (n : ℕ) → exceedsOf s n ≡ not (subsetOf s
 unfolding exceedsOf subsetOf
 exceeds-below s n =
     any-not-all 256 (λ t. leb n t && has s t) (λ t. implies (has s t) (has (belowOf n) t))
-    (λ t l. ap (λ (x : Bool). x && has s t) (past t l) ∙ lacks (has s t) (has (belowOf n) t))
+    (λ t l. ap (λ (x : Bool). x && has s t) (past t l) ∙ and-comm (not (has (belowOf n) t)) (has s t) ∙ lacks (has s t) (has (belowOf n) t))
   where
     past : (t : ℕ) → t < 256 → leb n t ≡ not (has (belowOf n) t)
     past t l =
         cases (leb n t) (λ e. e ∙ sym (ap not (below-has n t ∙ ap (λ (x : Bool). x && ltb t 256) (le-ltb t n (leb-true n t e)))))
         (λ e. e ∙ sym (ap not (below-has n t ∙ ap₂ (λ (x y : Bool). x && y) (lt-ltb t n (leb-false n t e)) (lt-ltb t 256 l))))
-
-    lacks : (x y : Bool) → not y && x ≡ not (implies x y)
-    lacks true true = refl
-    lacks true false = refl
-    lacks false true = refl
-    lacks false false = refl
 
 -- each tag of a set that does not exceed n is below n
 pub not-exceeds : (s : TagSet) (n : ℕ) → exceedsOf s n ≡ false → (t : ℕ) → has s t ≡ true → t < n
@@ -263,23 +273,23 @@ not-exceeds-of-has s n h =
 -- Words
 
 -- four words of 64 bits each
-four-words : (x y z w : ℕ) → x < 2 ^ 64 → y < 2 ^ 64 → z < 2 ^ 64 → w < 2 ^ 64 → Words (record { words = x ∷ y ∷ z ∷ w ∷ [] })
+pub four-words : (x y z w : ℕ) → x < 2 ^ 64 → y < 2 ^ 64 → z < 2 ^ 64 → w < 2 ^ 64 → IsWords (record { words = x ∷ y ∷ z ∷ w ∷ [] })
 four-words x y z w hx hy hz hw = record {
   four = refl;
   fits = each-word (λ i. getD (x ∷ y ∷ z ∷ w ∷ []) i 0 < 2 ^ 64) hx hy hz hw (λ i. lit< tt);
 }
 
 -- the empty set has four words of 64 bits
-pub empty-words : Words emptySet
+pub empty-words : IsWords emptySet
 unfolding emptySet
 empty-words = four-words 0 0 0 0 (lit< tt) (lit< tt) (lit< tt) (lit< tt)
 
 -- so has a set of one tag
-pub single-words : (t : ℕ) → Words (singleOf t)
+pub single-words : (t : ℕ) → IsWords (singleOf t)
 unfolding singleOf
 single-words t =
     let v : ℕ = 2 ^ (t % 64) in
-    each-word (λ i. Words (record { words = set zeros i v })) (four-words v 0 0 0 h z z z) (four-words 0 v 0 0 z h z z)
+    each-word (λ i. IsWords (record { words = set zeros i v })) (four-words v 0 0 0 h z z z) (four-words 0 v 0 0 z h z z)
     (four-words 0 0 v 0 z z h z) (four-words 0 0 0 v z z z h) (λ i. four-words 0 0 0 0 z z z z) (t / 64)
   where
     h : 2 ^ (t % 64) < 2 ^ 64
@@ -289,7 +299,7 @@ single-words t =
     z = lit< tt
 
 -- so have the tags below n
-pub below-words : (n : ℕ) → Words (belowOf n)
+pub below-words : (n : ℕ) → IsWords (belowOf n)
 unfolding belowOf
 below-words n =
     four-words (lowOnes n) (lowOnes (n - 64)) (lowOnes (n - 128)) (lowOnes (n - 192)) (low n) (low (n - 64)) (low (n - 128)) (low (n - 192))
@@ -299,7 +309,7 @@ below-words n =
 
 -- so has what an operation that keeps to 64 bits makes of two such sets
 wordwise-words : (f : ℕ → ℕ → ℕ) → ((x y : ℕ) → x < 2 ^ 64 → y < 2 ^ 64 → f x y < 2 ^ 64)
-    → (a b : TagSet) → Words a → Words b → Words (wordwise f a b)
+    → (a b : TagSet) → IsWords a → IsWords b → IsWords (wordwise f a b)
 wordwise-words f h a b ha hb = four-words (at 0) (at 1) (at 2) (at 3) (fit 0) (fit 1) (fit 2) (fit 3)
   where
     at : ℕ → ℕ
@@ -309,25 +319,30 @@ wordwise-words f h a b ha hb = four-words (at 0) (at 1) (at 2) (at 3) (fit 0) (f
     fit i = h (getD (a .words) i 0) (getD (b .words) i 0) (ha .fits i) (hb .fits i)
 
 -- so has a union of two such sets
-pub union-words : (a b : TagSet) → Words a → Words b → Words (unionOf a b)
+pub union-words : (a b : TagSet) → IsWords a → IsWords b → IsWords (unionOf a b)
 unfolding unionOf
 union-words = wordwise-words bitOr (or-lt 64)
 
 -- so has an intersection of two such sets
-pub intersection-words : (a b : TagSet) → Words a → Words b → Words (intersectionOf a b)
+pub intersection-words : (a b : TagSet) → IsWords a → IsWords b → IsWords (intersectionOf a b)
 unfolding intersectionOf
 intersection-words = wordwise-words bitAnd (and-lt 64)
+
+-- a union with a subset of the set is the set
+pub union-absorbs : (a b : TagSet) → IsWords a → IsWords b → subsetOf b a ≡ true → unionOf a b ≡ a
+union-absorbs a b ha hb e =
+    subset-antisym (unionOf a b) a (union-words a b ha hb) ha (union-least a b a (subset-refl a) e) (union-upper-left a b)
 
 -- Sizes
 
 -- the tags in word q
-word-count : (s : TagSet) → Words s → (q : ℕ) → countBelow 64 (λ k. has s (q * 64 + k)) ≡ ones (wordAt (s .words) q)
+word-count : (s : TagSet) → IsWords s → (q : ℕ) → countBelow 64 (λ k. has s (q * 64 + k)) ≡ ones (wordAt (s .words) q)
 word-count s h q =
     count-cong 64 (λ k. has s (q * 64 + k)) (bitAt (wordAt (s .words) q)) (λ k l. tag-at (s .words) q k l)
     ∙ sym (ones-count 64 (wordAt (s .words) q) (word-fits s h q))
 
 -- the size is the sum of the ones of the four words
-pub size-words : (s : TagSet) → Words s
+pub size-words : (s : TagSet) → IsWords s
     → sizeOf s ≡ ones (getD (s .words) 0 0) + ones (getD (s .words) 1 0) + ones (getD (s .words) 2 0) + ones (getD (s .words) 3 0)
 unfolding sizeOf
 size-words s h =
@@ -388,7 +403,7 @@ pub size-inclusion : (a b : TagSet) → sizeOf (unionOf a b) + sizeOf (intersect
 size-inclusion a b = omega (arith, size-union a b, size-split a b)
 
 -- b has the tags of its subset a, and those that a has not
-size-subset : (a b : TagSet) → subsetOf a b ≡ true → sizeOf b ≡ sizeOf a + countBelow 256 (beyond a b)
+pub size-subset : (a b : TagSet) → subsetOf a b ≡ true → sizeOf b ≡ sizeOf a + countBelow 256 (λ t. has b t && not (has a t))
 unfolding sizeOf
 size-subset a b e = count-sum 256 (has b) (has a) (beyond a b) (λ t l. parts (has a t) (has b t) (subset-has a b e t))
   where

@@ -1,15 +1,17 @@
 -- A set of tags below 256 (document 01, 'Tag sets'): tag t is bit t mod 64 of word t div 64, bit 0 the lowest.
 -- Assumes nothing.
-use mathlib.Core.Bool.{Bool, _&&_, _||_, not, Bool·beq}
+use mathlib.Core.Bool.{Bool, true, false, _&&_, _||_, not, Bool·beq}
 use mathlib.Core.List.{List, [], _∷_}
 use mathlib.Core.Path.{_≡_}
-use Prim.Native.Nat.{ℕ, zero, suc, _-_, _/_, _%_, _^_, _<_, min}
+use Prim.Native.Nat.{ℕ, zero, suc, _+_, _-_, _/_, _%_, _^_, _<_, min}
 use lib.Bits.{bitOr, bitAnd}
-use lib.Dec.{leb}
+use lib.Dec.{leb, eqb}
 use lib.ListN.{getD, set, length}
 use Rattle.tagset.specs.declared.TagSet.{TagSet}
-use Rattle.tagset.specs.Bit.{bitAt}
-use Rattle.tagset.specs.Below.{countBelow, allBelow, anyBelow}
+
+-- bit k of a word, bit 0 the lowest
+unfoldable pub bitAt : ℕ → ℕ → Bool
+bitAt w k = eqb (w / 2 ^ k % 2) 1
 
 -- word i; 0 past the fourth
 abbrev pub wordAt : List ℕ → ℕ → ℕ
@@ -23,9 +25,11 @@ wordAt ws (suc (suc (suc (suc i)))) = 0
 unfoldable pub hasW : List ℕ → ℕ → Bool
 hasW ws t = bitAt (wordAt ws (t / 64)) (t % 64)
 
+-- tag t is in the set
 abbrev pub has : TagSet → ℕ → Bool
 has s t = hasW (s .words) t
 
+-- no tag
 unfoldable pub emptySet : TagSet
 emptySet = record { words = 0 ∷ 0 ∷ 0 ∷ 0 ∷ [] }
 
@@ -52,14 +56,33 @@ wordwise f a b =
           ∷ f (getD (a .words) 3 0) (getD (b .words) 3 0) ∷ [];
     }
 
+-- the tags of both sets together
 unfoldable pub unionOf : TagSet → TagSet → TagSet
 unionOf a b = wordwise bitOr a b
 
+-- the tags that are in both sets
 unfoldable pub intersectionOf : TagSet → TagSet → TagSet
 intersectionOf a b = wordwise bitAnd a b
 
 abbrev pub implies : Bool → Bool → Bool
 implies a b = not a || b
+
+-- how many numbers below n pass a test, whether all do, and whether any does
+abbrev pub one : Bool → ℕ
+one true = 1
+one false = 0
+
+unfoldable pub countBelow : ℕ → (ℕ → Bool) → ℕ
+countBelow zero f = 0
+countBelow (suc n) f = one (f n) + countBelow n f
+
+unfoldable pub allBelow : ℕ → (ℕ → Bool) → Bool
+allBelow zero f = true
+allBelow (suc n) f = f n && allBelow n f
+
+unfoldable pub anyBelow : ℕ → (ℕ → Bool) → Bool
+anyBelow zero f = false
+anyBelow (suc n) f = f n || anyBelow n f
 
 -- every tag of a is in b
 unfoldable pub subsetOf : TagSet → TagSet → Bool
@@ -73,11 +96,11 @@ sameOf a b = allBelow 256 (λ t. Bool·beq (has a t) (has b t))
 unfoldable pub exceedsOf : TagSet → ℕ → Bool
 exceedsOf s n = anyBelow 256 (λ t. leb n t && has s t)
 
--- how many tags the set has
+-- how many tags the set has: the ones in its words (law `size-words`)
 unfoldable pub sizeOf : TagSet → ℕ
 sizeOf s = countBelow 256 (has s)
 
 -- four words of 64 bits each, as every set of the code has
-pub record Words (s : TagSet) : Type 0 where
+pub record IsWords (s : TagSet) : Type 0 where
   pub four : length (s .words) ≡ 4
   pub fits : (i : ℕ) → getD (s .words) i 0 < 2 ^ 64

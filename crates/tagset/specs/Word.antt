@@ -15,9 +15,9 @@ use mir.Syntax.{w64}
 use mir.Val.{Fits}
 use borrow.Table.Steps.{cases}
 use Rattle.tagset.specs.declared.TagSet.{TagSet}
-use Rattle.tagset.specs.Below.{allBelow, all-at, all-make}
-use Rattle.tagset.specs.Bit.{bitAt, bit-and, bits-ext}
-use Rattle.tagset.specs.Set.{wordAt, hasW, has, singleOf, lowOnes, belowOf, wordwise, implies, subsetOf, sameOf, Words}
+use Rattle.tagset.specs.Below.{all-at, all-make}
+use Rattle.tagset.specs.Bit.{bit-and, bits-ext}
+use Rattle.tagset.specs.Set.{allBelow, bitAt, wordAt, hasW, has, singleOf, lowOnes, belowOf, wordwise, implies, subsetOf, sameOf, IsWords}
 
 -- four words of 0
 abbrev pub zeros : List ℕ
@@ -60,11 +60,11 @@ wordwise-has f g z e a b t =
     word = each-word (λ q. wordAt (wordwise f a b .words) q ≡ f (wordAt (a .words) q) (wordAt (b .words) q)) refl refl refl refl (λ q. sym z)
 
 -- the words of a set of the code, as its types give them
-pub words-of : (s : TagSet) → length (s .words) ≡ 4 → ((i : ℕ) → Fits w64 (getD (s .words) i 0)) → Words s
+pub words-of : (s : TagSet) → length (s .words) ≡ 4 → ((i : ℕ) → Fits w64 (getD (s .words) i 0)) → IsWords s
 words-of s l f = record { four = l; fits = λ i. f i .fits }
 
 -- each of them is of 64 bits
-pub word-fits : (s : TagSet) → Words s → (q : ℕ) → wordAt (s .words) q < 2 ^ 64
+pub word-fits : (s : TagSet) → IsWords s → (q : ℕ) → wordAt (s .words) q < 2 ^ 64
 word-fits s h = each-word (λ q. wordAt (s .words) q < 2 ^ 64) (h .fits 0) (h .fits 1) (h .fits 2) (h .fits 3) (λ q. lit< tt)
 
 -- the test of two truth values passes where they are the same
@@ -97,14 +97,14 @@ module _ (r : Bool → Bool → Bool) (R : ℕ → ℕ → Type 0) (T : Tests r 
       (λ t l. T .bits (wordAt (a .words) (t / 64)) (wordAt (b .words) (t / 64)) (t % 64) (each-word (At R a b) h0 h1 h2 h3 (λ i. T .none) (t / 64)))
 
   -- tags that all pass are of words that are related
-  tests-back : Words a → Words b → allBelow 256 (λ t. r (has a t) (has b t)) ≡ true → (q : ℕ) → q < 4 → At R a b q
+  tests-back : IsWords a → IsWords b → allBelow 256 (λ t. r (has a t) (has b t)) ≡ true → (q : ℕ) → q < 4 → At R a b q
   tests-back ha hb e q l =
       T .back (wordAt (a .words) q) (wordAt (b .words) q) (word-fits a ha q) (word-fits b hb q) (λ k g.
       ap₂ r (sym (tag-at (a .words) q k g)) (sym (tag-at (b .words) q k g))
       ∙ all-at 256 (λ t. r (has a t) (has b t)) e (q * 64 + k) (omega arith))
 
   -- so a word that is not related has a tag that fails
-  tests-fail : Words a → Words b → (q : ℕ) → q < 4 → (At R a b q → ⊥) → allBelow 256 (λ t. r (has a t) (has b t)) ≡ false
+  tests-fail : IsWords a → IsWords b → (q : ℕ) → q < 4 → (At R a b q → ⊥) → allBelow 256 (λ t. r (has a t) (has b t)) ≡ false
   tests-fail ha hb q l n = cases (allBelow 256 (λ t. r (has a t) (has b t))) (λ e. absurd (n (tests-back ha hb e q l))) (λ e. e)
 
 -- a word that has no bit which the other lacks
@@ -142,7 +142,7 @@ pub subset-pass : (a b : TagSet) → At Within a b 0 → At Within a b 1 → At 
 unfolding subsetOf
 subset-pass = tests-pass implies Within tests-within
 
-pub subset-fail : (a b : TagSet) → Words a → Words b → (q : ℕ) → q < 4 → (At Within a b q → ⊥) → subsetOf a b ≡ false
+pub subset-fail : (a b : TagSet) → IsWords a → IsWords b → (q : ℕ) → q < 4 → (At Within a b q → ⊥) → subsetOf a b ≡ false
 unfolding subsetOf
 subset-fail = tests-fail implies Within tests-within
 
@@ -151,11 +151,11 @@ pub same-pass : (a b : TagSet) → At Same a b 0 → At Same a b 1 → At Same a
 unfolding sameOf
 same-pass = tests-pass Bool·beq Same tests-same
 
-pub same-fail : (a b : TagSet) → Words a → Words b → (q : ℕ) → q < 4 → (At Same a b q → ⊥) → sameOf a b ≡ false
+pub same-fail : (a b : TagSet) → IsWords a → IsWords b → (q : ℕ) → q < 4 → (At Same a b q → ⊥) → sameOf a b ≡ false
 unfolding sameOf
 same-fail = tests-fail Bool·beq Same tests-same
 
-pub same-words : (a b : TagSet) → Words a → Words b → sameOf a b ≡ true → (q : ℕ) → q < 4 → At Same a b q
+pub same-words : (a b : TagSet) → IsWords a → IsWords b → sameOf a b ≡ true → (q : ℕ) → q < 4 → At Same a b q
 unfolding sameOf
 same-words = tests-back Bool·beq Same tests-same
 

@@ -3,16 +3,16 @@
 use mathlib.Core.Path.{sym}
 use lib.Dec.{lit<}
 use borrow.Author.Needs.{needs}
-use Rattle.tagset.specs.Set.{Words}
+use Rattle.tagset.specs.Set.{IsWords}
 use Rattle.tagset.specs.Word.{words-of, subset-pass, subset-fail}
 use Rattle.tagset.proofs.TagSet.is_subset.Statement.{statement}
 use Rattle.tagset.proofs.TagSet.is_subset.Tie as tie
 
 -- both sets have four words of 64 bits
-mine : (c : tie.Start) → Words (c .args .t1)
+mine : (c : tie.Start) → IsWords (c .args .t1)
 mine c = words-of (c .args .t1) (search needs) (λ i. search needs)
 
-its : (c : tie.Start) → Words (c .args .t2)
+its : (c : tie.Start) → IsWords (c .args .t2)
 its c = words-of (c .args .t2) (search needs) (λ i. search needs)
 
 returns : tie.Need-returns

@@ -7,14 +7,14 @@ use lib.Count.{ones, ones-le}
 use lib.ListN.{getD}
 use lib.Dec.{lit<}
 use borrow.Author.Needs.{needs}
-use Rattle.tagset.specs.Set.{Words}
+use Rattle.tagset.specs.Set.{IsWords}
 use Rattle.tagset.specs.Word.{words-of}
 use Rattle.tagset.specs.Laws.{size-words}
 use Rattle.tagset.proofs.TagSet.size.Statement.{statement}
 use Rattle.tagset.proofs.TagSet.size.Tie as tie
 
 -- the set has four words of 64 bits, so that each has at most 64 ones
-mine : (c : tie.Start) → Words (c .args .t1)
+mine : (c : tie.Start) → IsWords (c .args .t1)
 mine c = words-of (c .args .t1) (search needs) (λ i. search needs)
 
 few : (c : tie.Start) (i : ℕ) → ones (getD (c .args .t1 .words) i 0) ≤ 64
