@@ -1,9 +1,70 @@
 -- An order of refusals is a list of conditions, each with its answer: the first condition that holds decides (document 01, 'Order').
 -- Assumes nothing.
-use mathlib.Core.Bool.{Bool, cond}
-use mathlib.Core.List.{List, [], _∷_}
+use mathlib.Core.Path.{_≡_, refl, sym, ap, _∙_}
+use mathlib.Core.Bool.{Bool, true, false, cond}
+use mathlib.Core.List.{List, [], _∷_, _++_}
+use mathlib.Core.Logic.{_⊎_, inl, inr}
 
 -- the answer beside the first condition that holds, or the last answer where none does
 abbrev pub firstOf {ℓ} : {A : Type ℓ} → List (Bool × A) → A → A
 firstOf [] a = a
 firstOf (c ∷ cs) a = cond (c .0) (c .1) (firstOf cs a)
+
+module _ {A : Type 0} where
+  -- no condition of the list holds
+  abbrev pub NoneHolds : List (Bool × A) → Type 0
+  NoneHolds [] = Unit {0}
+  NoneHolds (c ∷ cs) = (c .0 ≡ false) × NoneHolds cs
+
+  -- a condition of the list holds, none before it does, and this is its answer
+  pub record IsFirst (cs : List (Bool × A)) (x : A) : Type 0 where
+    pub before : List (Bool × A)
+    pub here : Bool × A
+    pub after : List (Bool × A)
+    pub split : cs ≡ before ++ (here ∷ after)
+    pub none : NoneHolds before
+    pub holds : here .0 ≡ true
+    pub answer : here .1 ≡ x
+
+  -- where one holds and none before it does, its answer is given
+  pub first-is : (cs : List (Bool × A)) (a : A) {x : A} → IsFirst cs x → firstOf cs a ≡ x
+  first-is cs a h = ap (λ (l : List (Bool × A)). firstOf l a) (h .split) ∙ skip (h .before) (h .none) ∙ h .answer
+    where
+      skip : (bs : List (Bool × A)) → NoneHolds bs → firstOf (bs ++ (h .here ∷ h .after)) a ≡ h .here .1
+      skip [] n = ap (λ (t : Bool). cond t (h .here .1) (firstOf (h .after) a)) (h .holds)
+      skip (b ∷ bs) n = ap (λ (t : Bool). cond t (b .1) (firstOf (bs ++ (h .here ∷ h .after)) a)) (n .0) ∙ skip bs (n .1)
+
+  -- where none holds, the last answer is given
+  pub first-none : (cs : List (Bool × A)) (a : A) → NoneHolds cs → firstOf cs a ≡ a
+  first-none [] a n = refl
+  first-none (c ∷ cs) a n = ap (λ (t : Bool). cond t (c .1) (firstOf cs a)) (n .0) ∙ first-none cs a (n .1)
+
+  -- and one of the two is the case
+  pub first-cases : (cs : List (Bool × A)) (a : A) → NoneHolds cs ⊎ IsFirst cs (firstOf cs a)
+  first-cases [] a = inl tt
+  first-cases (c ∷ cs) a = go (c .0) refl (first-cases cs a)
+    where
+      go : (t : Bool) → c .0 ≡ t → NoneHolds cs ⊎ IsFirst cs (firstOf cs a) → NoneHolds (c ∷ cs) ⊎ IsFirst (c ∷ cs) (cond (c .0) (c .1) (firstOf cs a))
+      go true e d =
+          inr
+          (record {
+            before = [];
+            here = c;
+            after = cs;
+            split = refl;
+            none = tt;
+            holds = e;
+            answer = sym (ap (λ (t : Bool). cond t (c .1) (firstOf cs a)) e);
+          })
+      go false e (inl n) = inl (e, n)
+      go false e (inr h) =
+          inr
+          (record {
+            before = c ∷ h .before;
+            here = h .here;
+            after = h .after;
+            split = ap (λ (l : List (Bool × A)). c ∷ l) (h .split);
+            none = (e, h .none);
+            holds = h .holds;
+            answer = h .answer ∙ sym (ap (λ (t : Bool). cond t (c .1) (firstOf cs a)) e);
+          })
