@@ -170,21 +170,38 @@ fn refusal(number: u64, tried: u64) {
 }
 
 fn sets() {
-    let first = TagSet::single(0)
-        .union(TagSet::single(63))
-        .union(TagSet::single(64));
-    let second = TagSet::single(64)
-        .union(TagSet::single(128))
-        .union(TagSet::single(255));
+    let first = of_three(0, 63, 64);
+    let second = of_three(64, 128, 255);
+    made(first, second);
+    limits();
+    compared(first, first.union(second));
+    asked(first, second);
+}
+
+fn of_three(a: u32, b: u32, c: u32) -> TagSet {
+    TagSet::single(a)
+        .union(TagSet::single(b))
+        .union(TagSet::single(c))
+}
+
+fn made(first: TagSet, second: TagSet) {
     set_line(b"first:", first);
     set_line(b"second:", second);
-    let union = first.union(second);
-    set_line(b"union:", union);
+    set_line(b"union:", first.union(second));
     set_line(b"intersection:", first.intersection(second));
+}
+
+fn limits() {
     set_line(b"below 65:", TagSet::below(65));
     set_line(b"none:", TagSet::empty());
+}
+
+fn compared(first: TagSet, union: TagSet) {
     yes_line(b"first is a part of union: ", first.is_subset(union));
     yes_line(b"union is a part of first: ", union.is_subset(first));
+}
+
+fn asked(first: TagSet, second: TagSet) {
     yes_line(b"first equals first: ", first.equals(first));
     yes_line(b"first equals second: ", first.equals(second));
     yes_line(b"second names 255 or more: ", second.exceeds(255));
