@@ -40,6 +40,7 @@ fn positions() {
     write_at_line(18446744073709551615);
 }
 
+// What is read at a position of the bytes 5 and 6.
 fn read_at_line(at: usize) {
     text(b"bytes 5 6 at ");
     decimal(at as u64);
@@ -49,6 +50,7 @@ fn read_at_line(at: usize) {
     text(b"\n");
 }
 
+// What writing 128 at a position of three bytes of 7 answers and leaves.
 fn write_at_line(at: usize) {
     text(b"128 into 7 7 7 at ");
     decimal(at as u64);
@@ -60,6 +62,7 @@ fn write_at_line(at: usize) {
     text(b"\n");
 }
 
+// The position after what was written, or the refusal.
 fn writing(w: Encoded) {
     match w {
         Encoded::Next(p) => {
@@ -70,6 +73,7 @@ fn writing(w: Encoded) {
     }
 }
 
+// A number and its bytes.
 fn number_line(v: u64) {
     text(b"number ");
     decimal(v);
@@ -80,6 +84,7 @@ fn number_line(v: u64) {
     text(b"\n");
 }
 
+// Bytes and what is read at their start.
 fn bytes_line(s: &[u8]) {
     text(b"bytes");
     spaced_bytes(s, s.len());
@@ -100,10 +105,12 @@ fn spaced_bytes(s: &[u8], n: usize) {
     }
 }
 
+// The byte as a wider number.
 fn byte(b: u8) -> u64 {
     b as u64
 }
 
+// A number behind a space.
 fn spaced(n: u64) {
     text(b" ");
     decimal(n);
@@ -132,6 +139,7 @@ fn width_line(width: u32) {
     text(b"\n");
 }
 
+// The largest number of a width.
 fn largest(width: u32) -> u64 {
     if width == 0 {
         return 0;
@@ -142,13 +150,14 @@ fn largest(width: u32) -> u64 {
     18446744073709551615 >> (64 - width)
 }
 
+// A number written, and read at a width.
 fn there_and_back(v: u64, width: u32) {
     let mut out = [0u8; 10];
     leb128::encode(&mut out, 0, v);
     reading(leb128::decode(&out, 0, width), v);
 }
 
-// What was read, or the refusal behind the number that was tried.
+// What was read, or the refusal. A number that was tried is named before its refusal; 0: none was.
 fn reading(r: Decoded, tried: u64) {
     match r {
         Decoded::Value(v, _) => {
@@ -160,6 +169,7 @@ fn reading(r: Decoded, tried: u64) {
     }
 }
 
+// The refusal, behind the number that was tried.
 fn refusal(number: u64, tried: u64) {
     if tried > 0 {
         decimal(tried);
@@ -169,6 +179,7 @@ fn refusal(number: u64, tried: u64) {
     decimal(number);
 }
 
+// Two sets, with a tag at each end of a word, and what the operations make of them.
 fn sets() {
     let first = of_three(0, 63, 64);
     let second = of_three(64, 128, 255);
@@ -178,12 +189,14 @@ fn sets() {
     asked(first, second);
 }
 
+// The set of three tags.
 fn of_three(a: u32, b: u32, c: u32) -> TagSet {
     TagSet::single(a)
         .union(TagSet::single(b))
         .union(TagSet::single(c))
 }
 
+// The sets and what is made of both.
 fn made(first: TagSet, second: TagSet) {
     set_line(b"first:", first);
     set_line(b"second:", second);
@@ -191,16 +204,19 @@ fn made(first: TagSet, second: TagSet) {
     set_line(b"intersection:", first.intersection(second));
 }
 
+// The tags below a number, and none.
 fn limits() {
     set_line(b"below 65:", TagSet::below(65));
     set_line(b"none:", TagSet::empty());
 }
 
+// Whether one set is a part of the other.
 fn compared(first: TagSet, union: TagSet) {
     yes_line(b"first is a part of union: ", first.is_subset(union));
     yes_line(b"union is a part of first: ", union.is_subset(first));
 }
 
+// Whether two sets are the same, and whether one names a tag of a number or more.
 fn asked(first: TagSet, second: TagSet) {
     yes_line(b"first equals first: ", first.equals(first));
     yes_line(b"first equals second: ", first.equals(second));
@@ -208,6 +224,7 @@ fn asked(first: TagSet, second: TagSet) {
     yes_line(b"second names 256 or more: ", second.exceeds(256));
 }
 
+// A set behind its name: its tags and its size.
 fn set_line(name: &[u8], s: TagSet) {
     text(name);
     spaced_tags(s);
@@ -227,6 +244,7 @@ fn spaced_tags(s: TagSet) {
     }
 }
 
+// A question and its answer.
 fn yes_line(question: &[u8], yes: bool) {
     text(question);
     if yes {
@@ -236,10 +254,12 @@ fn yes_line(question: &[u8], yes: bool) {
     }
 }
 
+// Writes bytes to standard output.
 fn text(s: &[u8]) {
     io::write_all(libc::STDOUT_FILENO, s);
 }
 
+// Writes a number to standard output.
 fn decimal(n: u64) {
     io::print_decimal(libc::STDOUT_FILENO, n);
 }
