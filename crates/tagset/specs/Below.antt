@@ -78,6 +78,12 @@ count-le (suc n) f = omega (arith, at-most (f n), count-le n f)
     at-most true = omega arith
     at-most false = omega arith
 
+-- tests that pass together are the same
+pub iff : (p q : Bool) → (p ≡ true → q ≡ true) → (q ≡ true → p ≡ true) → p ≡ q
+iff true q f g = sym (f refl)
+iff false true f g = g refl
+iff false false f g = refl
+
 -- a conjunction that holds gives both sides
 pub and-both : (a b : Bool) → a && b ≡ true → (a ≡ true) × (b ≡ true)
 and-both true b e = (refl, e)

@@ -15,7 +15,7 @@ use lib.Seq.{set-out, getD-set-other, ext-getD}
 use borrow.Table.Steps.{cases}
 use borrow.Author.Tests.{eqb-true, eqb-false, eq-eqb, ne-eqb, ltb-true, ltb-false, leb-true, leb-false, lt-ltb, le-ltb, le-leb, not-true}
 use Rattle.tagset.specs.declared.TagSet.{TagSet}
-use Rattle.tagset.specs.Below.{and-both, count-cong, count-add, count-sum, count-none, none-counted, count-at, count-le, all-at, all-make, any-not-all, any-find, any-make}
+use Rattle.tagset.specs.Below.{iff, and-both, count-cong, count-add, count-sum, count-none, none-counted, count-at, count-le, all-at, all-make, any-not-all, any-find, any-make}
 use Rattle.tagset.specs.Bit.{bit-zero, bit-or, bit-and, bit-pow, bit-ones, ones-count}
 use Rattle.tagset.specs.Set.{one, countBelow, bitAt, wordAt, hasW, has, emptySet, singleOf, lowOnes, belowOf, wordwise, unionOf, intersectionOf, implies, subsetOf, sameOf, exceedsOf, sizeOf, IsWords}
 use Rattle.tagset.specs.Word.{zeros, each-word, word-near, word-far, tag-at, by-tag, word-fits, wordwise-has, beq-true, beq-self, same-words}
@@ -62,12 +62,6 @@ other-word i q v n =
     (λ e. word-near (set zeros i v) q (ltb-true q 4 e) ∙ getD-set-other zeros i q v 0 n
     ∙ sym (word-near zeros q (ltb-true q 4 e)) ∙ zero-word q)
     (λ e. word-far (set zeros i v) q (ltb-false q 4 e))
-
--- tests that pass together are the same
-iff : (p q : Bool) → (p ≡ true → q ≡ true) → (q ≡ true → p ≡ true) → p ≡ q
-iff true q f g = sym (f refl)
-iff false true f g = g refl
-iff false false f g = refl
 
 -- a set of one tag has that tag alone
 pub single-has : (t u : ℕ) → t < 256 → has (singleOf t) u ≡ eqb u t

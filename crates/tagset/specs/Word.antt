@@ -13,9 +13,9 @@ use lib.ListN.{getD, set, length}
 use lib.Pow.{pow-lt, pow-pos}
 use mir.Syntax.{w64}
 use mir.Val.{Fits}
-use borrow.Table.Steps.{cases}
+use borrow.Author.Tests.{eqb-true, eq-eqb}
 use Rattle.tagset.specs.declared.TagSet.{TagSet}
-use Rattle.tagset.specs.Below.{all-at, all-make}
+use Rattle.tagset.specs.Below.{iff, and-both, all-at, all-make}
 use Rattle.tagset.specs.Bit.{bit-and, bits-ext}
 use Rattle.tagset.specs.Set.{allBelow, bitAt, wordAt, hasW, has, singleOf, lowOnes, belowOf, wordwise, implies, subsetOf, sameOf, IsWords}
 
@@ -78,44 +78,58 @@ beq-true false false e = refl
 beq-true true false e = sym e
 beq-true false true e = e
 
--- words q of two sets are related
-abbrev pub At : (ℕ → ℕ → Type 0) → TagSet → TagSet → ℕ → Type 0
-At R a b q = R (wordAt (a .words) q) (wordAt (b .words) q)
+-- d tests two words as r tests their bits, one by one
+record Tests (r : Bool → Bool → Bool) (d : ℕ → ℕ → Bool) : Type 0 where
+  none : d 0 0 ≡ true
+  bits : (x y k : ℕ) → d x y ≡ true → r (bitAt x k) (bitAt y k) ≡ true
+  back : (x y : ℕ) → x < 2 ^ 64 → y < 2 ^ 64 → ((k : ℕ) → k < 64 → r (bitAt x k) (bitAt y k) ≡ true) → d x y ≡ true
 
--- r tests bit by bit whether two words are related by R
-record Tests (r : Bool → Bool → Bool) (R : ℕ → ℕ → Type 0) : Type 0 where
-  none : R 0 0
-  bits : (x y k : ℕ) → R x y → r (bitAt x k) (bitAt y k) ≡ true
-  back : (x y : ℕ) → x < 2 ^ 64 → y < 2 ^ 64 → ((k : ℕ) → k < 64 → r (bitAt x k) (bitAt y k) ≡ true) → R x y
+module _ (r : Bool → Bool → Bool) (d : ℕ → ℕ → Bool) (T : Tests r d) (a b : TagSet) where
+  -- the test of word q
+  abbrev word-test : ℕ → Bool
+  word-test q = d (wordAt (a .words) q) (wordAt (b .words) q)
 
-module _ (r : Bool → Bool → Bool) (R : ℕ → ℕ → Type 0) (T : Tests r R) (a b : TagSet) where
-  -- words that are related have tags that pass
-  tests-pass : At R a b 0 → At R a b 1 → At R a b 2 → At R a b 3 → allBelow 256 (λ t. r (has a t) (has b t)) ≡ true
+  -- words that pass have tags that pass
+  tests-pass : word-test 0 ≡ true → word-test 1 ≡ true → word-test 2 ≡ true → word-test 3 ≡ true → allBelow 256 (λ t. r (has a t) (has b t)) ≡ true
   unfolding hasW
   tests-pass h0 h1 h2 h3 =
       all-make 256 (λ t. r (has a t) (has b t))
-      (λ t l. T .bits (wordAt (a .words) (t / 64)) (wordAt (b .words) (t / 64)) (t % 64) (each-word (At R a b) h0 h1 h2 h3 (λ i. T .none) (t / 64)))
+      (λ t l. T .bits (wordAt (a .words) (t / 64)) (wordAt (b .words) (t / 64)) (t % 64)
+      (each-word (λ q. word-test q ≡ true) h0 h1 h2 h3 (λ i. T .none) (t / 64)))
 
-  -- tags that all pass are of words that are related
-  tests-back : IsWords a → IsWords b → allBelow 256 (λ t. r (has a t) (has b t)) ≡ true → (q : ℕ) → q < 4 → At R a b q
+  -- tags that all pass are of words that pass
+  tests-back : IsWords a → IsWords b → allBelow 256 (λ t. r (has a t) (has b t)) ≡ true → (q : ℕ) → q < 4 → word-test q ≡ true
   tests-back ha hb e q l =
       T .back (wordAt (a .words) q) (wordAt (b .words) q) (word-fits a ha q) (word-fits b hb q) (λ k g.
       ap₂ r (sym (tag-at (a .words) q k g)) (sym (tag-at (b .words) q k g))
       ∙ all-at 256 (λ t. r (has a t) (has b t)) e (q * 64 + k) (omega arith))
 
-  -- so a word that is not related has a tag that fails
-  tests-fail : IsWords a → IsWords b → (q : ℕ) → q < 4 → (At R a b q → ⊥) → allBelow 256 (λ t. r (has a t) (has b t)) ≡ false
-  tests-fail ha hb q l n = cases (allBelow 256 (λ t. r (has a t) (has b t))) (λ e. absurd (n (tests-back ha hb e q l))) (λ e. e)
+  -- so the tags are tested by the four words
+  tests-words : IsWords a → IsWords b → allBelow 256 (λ t. r (has a t) (has b t)) ≡ word-test 0 && word-test 1 && word-test 2 && word-test 3
+  tests-words ha hb =
+      iff (allBelow 256 (λ t. r (has a t) (has b t))) (word-test 0 && word-test 1 && word-test 2 && word-test 3)
+      (λ e. all-four (tests-back ha hb e 0 (lit< tt)) (tests-back ha hb e 1 (lit< tt)) (tests-back ha hb e 2 (lit< tt)) (tests-back ha hb e 3 (lit< tt)))
+      (λ e.
+      let p = and-both (word-test 0 && word-test 1 && word-test 2) (word-test 3) e in
+      let q = and-both (word-test 0 && word-test 1) (word-test 2) (p .0) in
+      let o = and-both (word-test 0) (word-test 1) (q .0) in
+      tests-pass (o .0) (o .1) (q .1) (p .1))
+    where
+      all-four : word-test 0 ≡ true → word-test 1 ≡ true → word-test 2 ≡ true → word-test 3 ≡ true → word-test 0 && word-test 1 && word-test 2 && word-test 3 ≡ true
+      all-four h0 h1 h2 h3 = both (both (both h0 h1) h2) h3
+        where
+          both : {x y : Bool} → x ≡ true → y ≡ true → x && y ≡ true
+          both p q = ap₂ (λ (x y : Bool). x && y) p q
 
--- a word that has no bit which the other lacks
-abbrev pub Within : ℕ → ℕ → Type 0
-Within x y = bitAnd x y ≡ x
+-- a word has no bit that the other lacks
+abbrev pub within : ℕ → ℕ → Bool
+within x y = eqb (bitAnd x y) x
 
-tests-within : Tests implies Within
+tests-within : Tests implies within
 tests-within = record {
   none = refl;
-  bits = λ x y k e. implied (bitAt x k) (bitAt y k) (sym (bit-and x y k) ∙ ap (λ (w : ℕ). bitAt w k) e);
-  back = λ x y hx hy h. bits-ext 64 (bitAnd x y) x (and-lt 64 x y hx hy) hx (λ k l. bit-and x y k ∙ kept (bitAt x k) (bitAt y k) (h k l));
+  bits = λ x y k e. implied (bitAt x k) (bitAt y k) (sym (bit-and x y k) ∙ ap (λ (w : ℕ). bitAt w k) (eqb-true (bitAnd x y) x e));
+  back = λ x y hx hy h. eq-eqb (bitAnd x y) x (bits-ext 64 (bitAnd x y) x (and-lt 64 x y hx hy) hx (λ k l. bit-and x y k ∙ kept (bitAt x k) (bitAt y k) (h k l)));
 }
   where
     implied : (x y : Bool) → x && y ≡ x → implies x y ≡ true
@@ -126,38 +140,37 @@ tests-within = record {
     kept true y e = e
     kept false y e = refl
 
--- a word that is the other
-abbrev pub Same : ℕ → ℕ → Type 0
-Same x y = x ≡ y
-
-tests-same : Tests Bool·beq Same
+tests-same : Tests Bool·beq eqb
 tests-same = record {
   none = refl;
-  bits = λ x y k e. ap (λ (w : ℕ). Bool·beq (bitAt x k) (bitAt w k)) (sym e) ∙ beq-self (bitAt x k);
-  back = λ x y hx hy h. bits-ext 64 x y hx hy (λ k l. beq-true (bitAt x k) (bitAt y k) (h k l));
+  bits = λ x y k e. ap (λ (w : ℕ). Bool·beq (bitAt x k) (bitAt w k)) (sym (eqb-true x y e)) ∙ beq-self (bitAt x k);
+  back = λ x y hx hy h. eq-eqb x y (bits-ext 64 x y hx hy (λ k l. beq-true (bitAt x k) (bitAt y k) (h k l)));
 }
 
 -- a subset, as the code tests it
-pub subset-pass : (a b : TagSet) → At Within a b 0 → At Within a b 1 → At Within a b 2 → At Within a b 3 → subsetOf a b ≡ true
+pub subset-words : (a b : TagSet) → IsWords a → IsWords b
+    → subsetOf a b
+    ≡ within (getD (a .words) 0 0) (getD (b .words) 0 0)
+    && within (getD (a .words) 1 0) (getD (b .words) 1 0)
+    && within (getD (a .words) 2 0) (getD (b .words) 2 0)
+    && within (getD (a .words) 3 0) (getD (b .words) 3 0)
 unfolding subsetOf
-subset-pass = tests-pass implies Within tests-within
-
-pub subset-fail : (a b : TagSet) → IsWords a → IsWords b → (q : ℕ) → q < 4 → (At Within a b q → ⊥) → subsetOf a b ≡ false
-unfolding subsetOf
-subset-fail = tests-fail implies Within tests-within
+subset-words = tests-words implies within tests-within
 
 -- the same tags, as the code tests them
-pub same-pass : (a b : TagSet) → At Same a b 0 → At Same a b 1 → At Same a b 2 → At Same a b 3 → sameOf a b ≡ true
+pub same-tested : (a b : TagSet) → IsWords a → IsWords b
+    → sameOf a b
+    ≡ eqb (getD (a .words) 0 0) (getD (b .words) 0 0)
+    && eqb (getD (a .words) 1 0) (getD (b .words) 1 0)
+    && eqb (getD (a .words) 2 0) (getD (b .words) 2 0)
+    && eqb (getD (a .words) 3 0) (getD (b .words) 3 0)
 unfolding sameOf
-same-pass = tests-pass Bool·beq Same tests-same
+same-tested = tests-words Bool·beq eqb tests-same
 
-pub same-fail : (a b : TagSet) → IsWords a → IsWords b → (q : ℕ) → q < 4 → (At Same a b q → ⊥) → sameOf a b ≡ false
+-- sets with the same tags have the same words
+pub same-words : (a b : TagSet) → IsWords a → IsWords b → sameOf a b ≡ true → (q : ℕ) → q < 4 → wordAt (a .words) q ≡ wordAt (b .words) q
 unfolding sameOf
-same-fail = tests-fail Bool·beq Same tests-same
-
-pub same-words : (a b : TagSet) → IsWords a → IsWords b → sameOf a b ≡ true → (q : ℕ) → q < 4 → At Same a b q
-unfolding sameOf
-same-words = tests-back Bool·beq Same tests-same
+same-words a b ha hb e q l = eqb-true (wordAt (a .words) q) (wordAt (b .words) q) (tests-back Bool·beq eqb tests-same a b ha hb e q l)
 
 -- a tag below 256, as the code tests it
 pub has-near : (s : TagSet) (t : ℕ) → t < 256 → has s t ≡ eqb (bitAnd (getD (s .words) (t / 64) 0 / 2 ^ (t % 64)) 1) 1

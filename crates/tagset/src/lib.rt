@@ -86,38 +86,20 @@ impl TagSet {
     pub fn is_subset(self, other: TagSet) -> bool
         ensures { λ r. ⌜ r ≡ subsetOf self other ⌝ }
     {
-        if self.words[0] & other.words[0] != self.words[0] {
-            return false;
-        }
-        if self.words[1] & other.words[1] != self.words[1] {
-            return false;
-        }
-        if self.words[2] & other.words[2] != self.words[2] {
-            return false;
-        }
-        if self.words[3] & other.words[3] != self.words[3] {
-            return false;
-        }
-        true
+        (self.words[0] & other.words[0] == self.words[0])
+            & (self.words[1] & other.words[1] == self.words[1])
+            & (self.words[2] & other.words[2] == self.words[2])
+            & (self.words[3] & other.words[3] == self.words[3])
     }
 
     // Whether both sets have the same tags.
     pub fn equals(self, other: TagSet) -> bool
         ensures { λ r. ⌜ r ≡ sameOf self other ⌝ }
     {
-        if self.words[0] != other.words[0] {
-            return false;
-        }
-        if self.words[1] != other.words[1] {
-            return false;
-        }
-        if self.words[2] != other.words[2] {
-            return false;
-        }
-        if self.words[3] != other.words[3] {
-            return false;
-        }
-        true
+        (self.words[0] == other.words[0])
+            & (self.words[1] == other.words[1])
+            & (self.words[2] == other.words[2])
+            & (self.words[3] == other.words[3])
     }
 
     // Whether some tag of the set is n or more.

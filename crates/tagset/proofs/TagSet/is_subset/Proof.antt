@@ -1,10 +1,10 @@
--- `is_subset` meets its contract: a word with a bit that the other lacks has such a tag, and four words without have none.
+-- `is_subset` meets its contract: the tags of a word are in the other set where the word has no bit that the other lacks.
 -- Each `λ c. lit< tt` answers for the read of a word: its index is a constant below 4. Assumes nothing.
 use mathlib.Core.Path.{sym}
 use lib.Dec.{lit<}
 use borrow.Author.Needs.{needs}
 use Rattle.tagset.specs.Set.{IsWords}
-use Rattle.tagset.specs.Word.{words-of, subset-pass, subset-fail}
+use Rattle.tagset.specs.Word.{words-of, subset-words}
 use Rattle.tagset.proofs.TagSet.is_subset.Statement.{statement}
 use Rattle.tagset.proofs.TagSet.is_subset.Tie as tie
 
@@ -17,32 +17,8 @@ its c = words-of (c .args .t2) (search needs) (λ i. search needs)
 
 returns : tie.Need-returns
 returns c =
-    let s = c .before .before .before .before in
-    sym (subset-fail _ _ (mine s) (its s) 0 (lit< tt) (c .if1 .taken))
-
-returns-2 : tie.Need-returns-2
-returns-2 c =
-    let s = c .before .before .before .before .before .before .before .before in
-    sym (subset-fail _ _ (mine s) (its s) 1 (lit< tt) (c .if2 .taken))
-
-returns-3 : tie.Need-returns-3
-returns-3 c =
     let s = c .before .before .before .before .before .before .before .before .before .before .before .before in
-    sym (subset-fail _ _ (mine s) (its s) 2 (lit< tt) (c .if3 .taken))
-
-returns-4 : tie.Need-returns-4
-returns-4 c =
-    let s = c .before .before .before .before .before .before .before .before .before .before .before .before .before .before .before .before in
-    sym (subset-fail _ _ (mine s) (its s) 3 (lit< tt) (c .if4 .taken))
-
-returns-5 : tie.Need-returns-5
-returns-5 c =
-    sym
-    (subset-pass _ _
-    (c .before .before .before .before .before .before .before .before .before .before .before .before .if1 .left)
-    (c .before .before .before .before .before .before .before .before .if2 .left)
-    (c .before .before .before .before .if3 .left)
-    (c .if4 .left))
+    sym (subset-words _ _ (mine s) (its s))
 
 pub is-subset-spec : {M : Type 1} → statement M
 is-subset-spec =
@@ -51,17 +27,13 @@ is-subset-spec =
     (λ c. lit< tt)
     (λ c. lit< tt)
     (λ c. lit< tt)
-    returns
     (λ c. lit< tt)
     (λ c. lit< tt)
     (λ c. lit< tt)
-    returns-2
     (λ c. lit< tt)
     (λ c. lit< tt)
     (λ c. lit< tt)
-    returns-3
     (λ c. lit< tt)
     (λ c. lit< tt)
     (λ c. lit< tt)
-    returns-4
-    returns-5)
+    returns)
