@@ -5,5 +5,6 @@ pub mod Scan
 pub mod ScanForm
 pub mod Refusals
 pub mod Output
+pub mod Part
 pub mod Laws
 pub mod Samples
