@@ -1,4 +1,6 @@
-// Runs the samples on numbers and tag sets, a line each. What it must print stands in the file stdout.
+// Runs the samples on numbers, logs and tag sets, a line each. What it must print stands in the file stdout.
+mod logs;
+
 use leb128::Decoded;
 use leb128::Encoded;
 use tagset::TagSet;
@@ -8,6 +10,7 @@ fn main() {
     refusals();
     positions();
     widths();
+    logs::run();
     sets();
 }
 
