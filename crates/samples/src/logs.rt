@@ -8,6 +8,7 @@ use eventlog::Event;
 use eventlog::Head;
 use eventlog::Record;
 
+// Each kind of sample in turn.
 pub fn run() {
     whole();
     heads();
@@ -194,6 +195,7 @@ fn written() {
     write_line(enable, 1);
     head_line(5);
     head_line(4294967295);
+    short_head_line();
 }
 
 // What writing a record at a position answers and leaves.
@@ -218,6 +220,16 @@ fn head_line(n: u32) {
     writing(eventlog::write_head(&mut out, n));
     text(b", leaves");
     spaced_bytes(&out, 8);
+    text(b"\n");
+}
+
+// What writing an n of two bytes into one place answers and leaves.
+fn short_head_line() {
+    text(b"n 300 of 1: ");
+    let mut out = [7u8; 1];
+    writing(eventlog::write_head(&mut out, 300));
+    text(b", leaves");
+    spaced_bytes(&out, 1);
     text(b"\n");
 }
 
