@@ -1,0 +1,49 @@
+-- The tracker's state (document 01, 'Storage': a book): the header and four lent lists of any length and content. Assumes nothing.
+use mathlib.Core.Bool.{Bool, _||_}
+use mathlib.Core.List.{List, [], _∷_, _++_}
+use Prim.Native.Nat.{ℕ, _+_, _-_, _*_, _/_, _%_}
+use lib.Dec.{ltb, eqb}
+use lib.ListN.{length, getD, take, drop, replicate}
+use Rattle.model.specs.declared.Flow.{Flow}
+use Rattle.model.specs.Model.{flow}
+use Rattle.model.specs.Reach.{tabulate}
+use Rattle.tagset.specs.declared.TagSet.{TagSet}
+use Rattle.state.specs.declared.Header.{Header}
+
+-- what is lent; in use are 4n words of tag sets, 16n words of policy sets (permitted sets), n counts of these, 512 flows (the rack)
+pub record Storage : Type 0 where
+  pub tags : List ℕ
+  pub policies : List ℕ
+  pub counts : List ℕ
+  pub flows : List Flow
+
+-- the header (the small numbers): n, how many flows are enabled, the greatest accepted number
+pub record State : Type 0 where
+  pub header : Header
+  pub storage : Storage
+
+-- 9: 'n is 0 or above 256, or storage shorter than above'
+unfoldable pub badSize : ℕ → Storage → Bool
+badSize n lent =
+    eqb n 0 || ltb 256 n || ltb (length (lent .tags)) (4 * n) || ltb (length (lent .policies)) (16 * n) || ltb (length (lent .counts)) n
+    || ltb (length (lent .flows)) 512
+
+-- set k of a list of words, four words each
+unfoldable pub setAt : List ℕ → ℕ → TagSet
+setAt ws k = record { words = getD ws (4 * k) 0 ∷ getD ws (4 * k + 1) 0 ∷ getD ws (4 * k + 2) 0 ∷ getD ws (4 * k + 3) 0 ∷ [] }
+
+-- the words with the first n sets replaced, the words beyond as they were
+unfoldable pub withSets : ℕ → (ℕ → TagSet) → List ℕ → List ℕ
+withSets n f ws = tabulate (4 * n) (λ i. getD (f (i / 4) .words) (i % 4) 0) ++ drop (4 * n) ws
+
+-- the enabled flows: 'packed from the front'
+unfoldable pub flowsOf : State → List Flow
+flowsOf s = take (s .header .enabled) (s .storage .flows)
+
+-- a record that is not in use
+abbrev pub noFlow : Flow
+noFlow = flow 0 0 0
+
+-- the table with these flows packed from the front; 'unused records are zero', those beyond 512 as they were
+unfoldable pub withFlows : List Flow → List Flow → List Flow
+withFlows fs table = fs ++ (replicate (512 - length fs) noFlow ++ drop 512 table)

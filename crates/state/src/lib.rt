@@ -1,0 +1,7 @@
+// The tracker's small numbers. What its lent storage holds, and when a state is valid, stands in specs/.
+
+pub struct Header {
+    pub containers: u32,
+    pub enabled: u32,
+    pub greatest: u32,
+}
