@@ -1,5 +1,5 @@
 -- Containers, flows, histories and executions: document 000, sections 3.1 and 3.2; document 01, 'What events do' and 'Lists of calls'.
--- A container is a number below n, and so is the tag that it has at first. Assumes nothing.
+-- A container (document 01: holder) is a number below n, and so is the tag that it has at first. Assumes nothing.
 use mathlib.Core.Bool.{Bool, true, false, _&&_, _||_, not, cond}
 use mathlib.Core.List.{List, [], _∷_, _++_, List·Memᴰ}
 use mathlib.Mathlib.Logic.Relation.{ReflTransGenᴰ}
@@ -10,11 +10,11 @@ use Rattle.model.specs.declared.Flow.{Flow}
 
 -- EVENTS AND HISTORIES
 
--- the flow with this number from one container to another (document 01: channel)
+-- the flow with this number from one container to another (document 01: channel); widths stand in the struct alone
 abbrev pub flow : ℕ → ℕ → ℕ → Flow
 flow number from to = record { number = number; from = from; to = to }
 
--- what a tracker sees (document 01: opening, closing); a disable names only the number
+-- an observable event (document 01: opening, closing); a disable 'names only the channel number'
 pub data Event : Type 0 where
   enable : Flow → Event
   disable : ℕ → Event
@@ -65,7 +65,7 @@ pub data Flows (n : ℕ) : History → ℕ → ℕ → Type 0 where
 
 -- EXECUTIONS
 
--- θ: which container has which tag (Definition 1; document 01: table)
+-- θ: container c has tag t, as θ c t (Definition 1; document 01: table)
 abbrev pub Configuration : Type 0
 Configuration = ℕ → ℕ → Bool
 
@@ -108,7 +108,7 @@ unfoldable pub joins : ℕ → History → Event → Bool
 joins n h (enable f) = ltb (f .from) n && ltb (f .to) n && not (eqb (f .from) (f .to)) && ltb (greatest h) (f .number) && ltb (length (enabled h)) 512
 joins n h (disable k) = isEnabled k (enabled h)
 
--- 'an event that doesn't join changes nothing'
+-- 'an event that doesn't join changes nothing here'
 unfoldable pub joined : ℕ → History → Event → History
 joined n h e = cond (joins n h e) (h ▸ e) h
 

@@ -12,8 +12,8 @@ tabulate zero f = []
 tabulate (suc n) f = f zero ∷ tabulate n (λ i. f (suc i))
 
 -- n rows of n truth values, and the value in row a and column b, false outside
-unfoldable pub table : ℕ → (ℕ → ℕ → Bool) → List (List Bool)
-table n f = tabulate n (λ a. tabulate n (λ b. f a b))
+unfoldable pub matrix : ℕ → (ℕ → ℕ → Bool) → List (List Bool)
+matrix n f = tabulate n (λ a. tabulate n (λ b. f a b))
 
 unfoldable pub cell : List (List Bool) → ℕ → ℕ → Bool
 cell m a b = getD (getD m a []) b false
@@ -24,10 +24,13 @@ isEdge [] a b = false
 isEdge (e ∷ es) a b = (eqb (e .0) a && eqb (e .1) b) || isEdge es a b
 
 -- which containers below n are reached from which by ways whose inner containers are below k
-unfoldable pub ways : ℕ → List (ℕ × ℕ) → ℕ → List (List Bool)
-ways n es zero = table n (λ a b. eqb a b || isEdge es a b)
-ways n es (suc k) = let m = ways n es k in table n (λ a b. cell m a b || (cell m a k && cell m k b))
+unfoldable pub reachVia : ℕ → List (ℕ × ℕ) → ℕ → List (List Bool)
+reachVia n es zero = matrix n (λ a b. eqb a b || isEdge es a b)
+reachVia n es (suc k) = let m = reachVia n es k in matrix n (λ a b. cell m a b || (cell m a k && cell m k b))
 
--- b is reached from a
+-- which containers below n are reached from which; and b is reached from a
+abbrev pub reachable : ℕ → List (ℕ × ℕ) → List (List Bool)
+reachable n es = reachVia n es n
+
 abbrev pub reaches : ℕ → List (ℕ × ℕ) → ℕ → ℕ → Bool
-reaches n es a b = cell (ways n es n) a b
+reaches n es a b = cell (reachable n es) a b

@@ -1,2 +1,4 @@
 pub mod State
 pub mod Valid
+pub mod Layout
+pub mod IsValid

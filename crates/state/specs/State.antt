@@ -44,6 +44,6 @@ flowsOf s = take (s .header .enabled) (s .storage .flows)
 abbrev pub noFlow : Flow
 noFlow = flow 0 0 0
 
--- the table with these flows packed from the front; 'unused records are zero', those beyond 512 as they were
+-- the table with these flows 'packed from the front', unused records zero, those beyond 512 as they were
 unfoldable pub withFlows : List Flow → List Flow → List Flow
 withFlows fs table = fs ++ (replicate (512 - length fs) noFlow ++ drop 512 table)

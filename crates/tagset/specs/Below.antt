@@ -10,6 +10,7 @@ use lib.Arith.{lt-of-le-ne}
 use lib.Dec.{eqb}
 use borrow.Table.Steps.{cases}
 use borrow.Author.Tests.{eqb-true, eqb-false, ne-eqb}
+use Rattle.truth.specs.Truth.{and-both}
 use Rattle.tagset.specs.Set.{one, countBelow, allBelow, anyBelow}
 
 -- what holds of each number below n + 1 holds of n, and of each below n
@@ -77,17 +78,6 @@ count-le (suc n) f = omega (arith, at-most (f n), count-le n f)
     at-most : (b : Bool) → one b ≤ 1
     at-most true = omega arith
     at-most false = omega arith
-
--- tests that pass together are the same
-pub iff : (p q : Bool) → (p ≡ true → q ≡ true) → (q ≡ true → p ≡ true) → p ≡ q
-iff true q f g = sym (f refl)
-iff false true f g = g refl
-iff false false f g = refl
-
--- a conjunction that holds gives both sides
-pub and-both : (a b : Bool) → a && b ≡ true → (a ≡ true) × (b ≡ true)
-and-both true b e = (refl, e)
-and-both false b e = absurd (false≢true e)
 
 -- where all pass, each does, and the other way
 pub all-at : (n : ℕ) (f : ℕ → Bool) → allBelow n f ≡ true → (k : ℕ) → k < n → f k ≡ true

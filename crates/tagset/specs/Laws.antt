@@ -15,7 +15,8 @@ use lib.Seq.{set-out, getD-set-other, ext-getD}
 use borrow.Table.Steps.{cases}
 use borrow.Author.Tests.{eqb-true, eqb-false, eq-eqb, ne-eqb, ltb-true, ltb-false, leb-true, leb-false, lt-ltb, le-ltb, le-leb, not-true}
 use Rattle.tagset.specs.declared.TagSet.{TagSet}
-use Rattle.tagset.specs.Below.{iff, and-both, count-cong, count-add, count-sum, count-none, none-counted, count-at, count-le, all-at, all-make, any-not-all, any-find, any-make}
+use Rattle.truth.specs.Truth.{iff, and-both}
+use Rattle.tagset.specs.Below.{count-cong, count-add, count-sum, count-none, none-counted, count-at, count-le, all-at, all-make, any-not-all, any-find, any-make}
 use Rattle.tagset.specs.Bit.{bit-zero, bit-or, bit-and, bit-pow, bit-ones, ones-count}
 use Rattle.tagset.specs.Set.{one, countBelow, bitAt, wordAt, hasW, has, emptySet, singleOf, lowOnes, belowOf, wordwise, unionOf, intersectionOf, implies, subsetOf, sameOf, exceedsOf, sizeOf, IsWords}
 use Rattle.tagset.specs.Word.{zeros, each-word, word-near, word-far, tag-at, by-tag, word-fits, wordwise-has, beq-true, beq-self, same-words}

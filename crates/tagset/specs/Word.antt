@@ -15,7 +15,8 @@ use mir.Syntax.{w64}
 use mir.Val.{Fits}
 use borrow.Author.Tests.{eqb-true, eq-eqb}
 use Rattle.tagset.specs.declared.TagSet.{TagSet}
-use Rattle.tagset.specs.Below.{iff, and-both, all-at, all-make}
+use Rattle.truth.specs.Truth.{iff, and-both}
+use Rattle.tagset.specs.Below.{all-at, all-make}
 use Rattle.tagset.specs.Bit.{bit-and, bits-ext}
 use Rattle.tagset.specs.Set.{allBelow, bitAt, wordAt, hasW, has, singleOf, lowOnes, belowOf, wordwise, implies, subsetOf, sameOf, IsWords}
 

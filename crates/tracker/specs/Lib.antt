@@ -1,2 +1,4 @@
 pub mod Outcome
+pub mod Refusals
+pub mod Propagation
 pub mod Samples

@@ -7,35 +7,24 @@ use lib.ListN.{length, drop, replicate}
 use Rattle.refusal.specs.Order.{firstOf}
 use Rattle.model.specs.declared.Flow.{Flow}
 use Rattle.model.specs.Model.{Event, enable, disable, Configuration, edgesOf, without, isEnabled}
-use Rattle.model.specs.Reach.{ways, cell}
+use Rattle.model.specs.Reach.{reachable, cell}
 use Rattle.tagset.specs.declared.TagSet.{TagSet}
 use Rattle.tagset.specs.Set.{has, emptySet, singleOf, unionOf, countBelow}
 use Rattle.state.specs.declared.Header.{Header}
 use Rattle.state.specs.State.{Storage, State, badSize, setAt, withSets, flowsOf, withFlows}
 use Rattle.state.specs.Valid.{validOf}
 
-pub record Answer : Type 0 where
+-- the refusal's number (0 where the call is accepted), the gain, and the state after: the header answered and the lists left
+pub record Outcome : Type 0 where
   pub refusal : ℕ
   pub gain : ℕ
-  pub header : Header
+  pub state : State
 
-pub record Outcome : Type 0 where
-  pub answer : Answer
-  pub storage : Storage
-
--- 'each call gets the storage and the small numbers as the call before left and answered them'
-unfoldable pub nextOf : Outcome → State
-nextOf o = record { header = o .answer .header; storage = o .storage }
-
--- an accepted call: this gain, this state
-unfoldable pub done : ℕ → State → Outcome
-done gain s = record { answer = record { refusal = 0; gain = gain; header = s .header }; storage = s .storage }
-
--- by the refusal's number: 0 is the work; 'every refusal answers its number with all other numbers 0, the book's small numbers come back as
--- they went in, and all lent memory keeps its content'
-unfoldable pub decided : State → ℕ → Outcome → Outcome
-decided s zero work = work
-decided s (suc k) work = record { answer = record { refusal = suc k; gain = 0; header = s .header }; storage = s .storage }
+-- by the refusal's number, where 0 is none: the work; 'every refusal answers its number with all other numbers 0, the book's small numbers come
+-- back as they went in [..], and all lent memory keeps its content'
+unfoldable pub decided : ℕ → State → ℕ → State → Outcome
+decided zero before gain after = record { refusal = 0; gain = gain; state = after }
+decided (suc k) before gain after = record { refusal = suc k; gain = 0; state = before }
 
 -- STARTING
 
@@ -56,9 +45,12 @@ started n lent =
           };
     }
 
--- the small numbers are '0 from starting' where it is refused
+-- '0 from starting'
+abbrev pub noHeader : Header
+noHeader = record { containers = 0; enabled = 0; greatest = 0 }
+
 unfoldable pub startOf : ℕ → Storage → Outcome
-startOf n lent = decided (record { header = record { containers = 0; enabled = 0; greatest = 0 }; storage = lent }) (firstOf (startOrder n lent) 0) (done 0 (started n lent))
+startOf n lent = decided (firstOf (startOrder n lent) 0) (record { header = noHeader; storage = lent }) 0 (started n lent)
 
 -- ENABLING
 
@@ -75,18 +67,19 @@ enableOrder s f =
 -- the sets of all a below n that pass the test, united
 unfoldable pub unionOver : ℕ → (ℕ → Bool) → (ℕ → TagSet) → TagSet
 unionOver zero p f = emptySet
-unionOver (suc n) p f = let rest = unionOver n p f in cond (p n) (unionOf rest (f n)) rest
+unionOver (suc n) p f = let rest = unionOver n p f in cond (p n) (unionOf (f n) rest) rest
 
--- 'holder b has tag t exactly if some holder a had t before the event and b can be reached from a by zero or more channels open after it'
+-- (spread) 'holder b has tag t exactly if some holder a had t before the event and b can be reached from a by zero or more channels open after
+-- the event': `cell m a b` is `reaches n (edgesOf fs) a b`, the table computed once
 unfoldable pub propagated : ℕ → List Flow → List ℕ → List ℕ
-propagated n fs ws = let m = ways n (edgesOf fs) n in withSets n (λ b. unionOver n (λ a. cell m a b) (setAt ws)) ws
+propagated n fs ws = let m = reachable n (edgesOf fs) in withSets n (λ b. unionOver n (λ a. cell m a b) (setAt ws)) ws
 
 -- 'the count of (tag, holder) pairs present after it and not before'
 unfoldable pub gainOf : ℕ → List ℕ → List ℕ → ℕ
 gainOf zero before after = 0
 gainOf (suc n) before after = countBelow 256 (λ t. has (setAt after n) t && not (has (setAt before n) t)) + gainOf n before after
 
--- the state with other flows enabled, another greatest number and other tag sets
+-- the state with these flows enabled, this greatest number and these tag sets; policy sets and their counts stay
 unfoldable pub changed : State → List Flow → ℕ → List ℕ → State
 changed s fs greatest tags =
     record {
@@ -99,22 +92,26 @@ unfoldable pub enableOf : State → Flow → Outcome
 enableOf s f =
     let fs = flowsOf s ++ (f ∷ []) in
     let tags = propagated (s .header .containers) fs (s .storage .tags) in
-    decided s (firstOf (enableOrder s f) 0) (done (gainOf (s .header .containers) (s .storage .tags) tags) (changed s fs (f .number) tags))
+    decided (firstOf (enableOrder s f) 0) s (gainOf (s .header .containers) (s .storage .tags) tags) (changed s fs (f .number) tags)
 
 -- DISABLING
 
 unfoldable pub disableOrder : State → ℕ → List (Bool × ℕ)
 disableOrder s k = (badSize (s .header .containers) (s .storage), 9) ∷ (not (validOf s), 12) ∷ (not (isEnabled k (flowsOf s)), 8) ∷ []
 
--- 'it takes no tag away', 'a closing gains 0'; claim 6: the general sentence gives the same
+-- 'a closing moves the later records down by one', 'it takes no tag away', 'gains 0'; claim `disable-settled`: the general sentence gives the same
 unfoldable pub disableOf : State → ℕ → Outcome
-disableOf s k = decided s (firstOf (disableOrder s k) 0) (done 0 (changed s (without k (flowsOf s)) (s .header .greatest) (s .storage .tags)))
+disableOf s k = decided (firstOf (disableOrder s k) 0) s 0 (changed s (without k (flowsOf s)) (s .header .greatest) (s .storage .tags))
 
 -- LISTS OF CALLS
 
 -- a call asks for an event, with any arguments; adding a policy set, which is no event, will be another case
 pub data Call : Type 0 where
   ask : Event → Call
+
+unfoldable pub orderOf : State → Call → List (Bool × ℕ)
+orderOf s (ask (enable f)) = enableOrder s f
+orderOf s (ask (disable k)) = disableOrder s k
 
 unfoldable pub outcomeOf : State → Call → Outcome
 outcomeOf s (ask (enable f)) = enableOf s f
@@ -125,10 +122,10 @@ unfoldable pub eventsOf : List Call → List Event
 eventsOf [] = []
 eventsOf (ask e ∷ cs) = e ∷ eventsOf cs
 
--- the state after the calls, refused or not
+-- the state after the calls: 'each call gets the storage and the small numbers as the call before left and answered them, refused or not'
 unfoldable pub after : State → List Call → State
 after s [] = s
-after s (c ∷ cs) = after (nextOf (outcomeOf s c)) cs
+after s (c ∷ cs) = after (outcomeOf s c .state) cs
 
 -- the tracker's configuration: the tags that each of its containers has stored
 unfoldable pub configurationOf : State → Configuration

@@ -5,11 +5,11 @@ use mathlib.Core.List.{List, [], _∷_, _++_, map}
 use Prim.Native.Nat.{ℕ, zero, suc, _+_, _*_}
 use lib.ListN.{replicate}
 use Rattle.model.specs.Model.{Event, enable, disable, flow, edgesOf, without, isEnabled}
-use Rattle.model.specs.Reach.{tabulate, table, cell, isEdge, ways}
+use Rattle.model.specs.Reach.{tabulate, matrix, cell, isEdge, reachVia}
 use Rattle.tagset.specs.Set.{has, hasW, bitAt, emptySet, singleOf, unionOf, subsetOf, exceedsOf, countBelow, allBelow, anyBelow}
 use Rattle.state.specs.State.{Storage, State, badSize, setAt, withSets, flowsOf, withFlows}
 use Rattle.state.specs.Valid.{allOf, risingFrom, inLimits, countsInLimits, numbersRise, endsProper, tagsKnown, ownTags, setsCarried, unusedZero, validOf}
-use Rattle.tracker.specs.Outcome.{Outcome, nextOf, done, decided, startOrder, started, startOf, enableOrder, unionOver, propagated, gainOf, changed, enableOf, disableOrder, disableOf, ask, outcomeOf}
+use Rattle.tracker.specs.Outcome.{decided, startOrder, started, startOf, enableOrder, unionOver, propagated, gainOf, changed, enableOf, disableOrder, disableOf, Call, ask, outcomeOf, after}
 
 -- a row: n, the events asked for, and what comes of them: each answer (a refusal and a gain), and each container's tags, rising
 pub record Sample : Type 0 where
@@ -33,20 +33,19 @@ unfoldable pub those : ℕ → ℕ → (ℕ → Bool) → List ℕ
 those i zero p = []
 those i (suc k) p = let rest = those (suc i) k p in cond (p i) (i ∷ rest) rest
 
--- the answer to each event in turn, and the state after the last
-unfoldable pub run : State → List Event → List (ℕ × ℕ) × State
-run s [] = ([], s)
-run s (e ∷ es) =
-    let o = outcomeOf s (ask e) in
-    let rest = run (nextOf o) es in
-    ((o .answer .refusal, o .answer .gain) ∷ rest .0, rest .1)
+-- the answer to each call in turn: refusal and gain
+unfoldable pub answers : State → List Call → List (ℕ × ℕ)
+answers s [] = []
+answers s (c ∷ cs) = let o = outcomeOf s c in (o .refusal, o .gain) ∷ answers (o .state) cs
 
 -- a row's n and events, with what the definitions give
 unfoldable pub computed : Sample → Sample
 computed r =
     let n = r .containers in
-    let end = run (nextOf (startOf n (lent n))) (r .events) in
-    record { containers = n; events = r .events; answers = end .0; sets = tabulate n (λ c. those 0 n (has (setAt (end .1 .storage .tags) c))) }
+    let begun = startOf n (lent n) .state in
+    let calls = map ask (r .events) in
+    let tags = after begun calls .storage .tags in
+    record { containers = n; events = r .events; answers = answers begun calls; sets = tabulate n (λ c. those 0 256 (has (setAt tags c))) }
 
 -- an accepted event with this gain
 abbrev gained : ℕ → ℕ × ℕ
@@ -100,19 +99,21 @@ samples =
       answers = gained 1 ∷ gained 0 ∷ gained 0 ∷ gained 2 ∷ [];
       sets = (0 ∷ 2 ∷ []) ∷ (0 ∷ 1 ∷ 2 ∷ []) ∷ (2 ∷ []) ∷ [];
     }
-    -- not the paper's: refused events among others. Number 0 is never above the greatest, and a refused enable uses up no number
+    -- not the paper's: refused events among others. Number 0 is never above the greatest, a refused enable uses up no
+    -- number, and of several conditions that hold the first decides
     ∷ record {
       containers = 3;
       events =
           enable (flow 0 0 1)
+          ∷ enable (flow 0 9 9)
           ∷ enable (flow 5 3 0)
           ∷ enable (flow 5 0 3)
           ∷ enable (flow 5 1 1) ∷ enable (flow 5 0 1) ∷ enable (flow 5 1 2) ∷ disable 4 ∷ enable (flow 6 1 2) ∷ disable 5 ∷ disable 5 ∷ [];
-      answers = (6, 0) ∷ (4, 0) ∷ (4, 0) ∷ (5, 0) ∷ gained 1 ∷ (6, 0) ∷ (8, 0) ∷ gained 2 ∷ gained 0 ∷ (8, 0) ∷ [];
+      answers = (6, 0) ∷ (4, 0) ∷ (4, 0) ∷ (4, 0) ∷ (5, 0) ∷ gained 1 ∷ (6, 0) ∷ (8, 0) ∷ gained 2 ∷ gained 0 ∷ (8, 0) ∷ [];
       sets = (0 ∷ []) ∷ (0 ∷ 1 ∷ []) ∷ (0 ∷ 1 ∷ 2 ∷ []) ∷ [];
     }
     ∷ []
 
 pub samples-hold : map computed samples ≡ samples
-unfolding samples computed run those lent edgesOf without isEnabled tabulate table cell isEdge ways hasW bitAt emptySet singleOf unionOf subsetOf exceedsOf countBelow allBelow anyBelow badSize setAt withSets flowsOf withFlows allOf risingFrom inLimits countsInLimits numbersRise endsProper tagsKnown ownTags setsCarried unusedZero validOf nextOf done decided startOrder started startOf enableOrder unionOver propagated gainOf changed enableOf disableOrder disableOf outcomeOf
+unfolding samples computed answers after those lent edgesOf without isEnabled tabulate matrix cell isEdge reachVia hasW bitAt emptySet singleOf unionOf subsetOf exceedsOf countBelow allBelow anyBelow badSize setAt withSets flowsOf withFlows allOf risingFrom inLimits countsInLimits numbersRise endsProper tagsKnown ownTags setsCarried unusedZero validOf decided startOrder started startOf enableOrder unionOver propagated gainOf changed enableOf disableOrder disableOf outcomeOf
 samples-hold = refl

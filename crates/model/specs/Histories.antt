@@ -1,0 +1,118 @@
+-- Flows and the accepted history in the papers' words. Assumes nothing.
+use mathlib.Core.Path.{_≡_, refl, sym, ap, _∙_, subst}
+use mathlib.Core.Bool.{Bool, true, false, _&&_, not, cond, false≢true}
+use mathlib.Core.Logic.{_⊎_, inl, inr, _↔_, _≢_}
+use mathlib.Core.List.{List, [], _∷_, _++_}
+use mathlib.Mathlib.Logic.Relation.{ReflTransGenᴰ, ReflTransGenᴰ·refl, ReflTransGenᴰ·tail}
+use Prim.Native.Nat.{ℕ, zero, suc, _≤_, _<_}
+use native.Mathlib.Omega.{arith}
+use lib.Dec.{ltb, eqb}
+use lib.ListN.{length}
+use borrow.Author.Tests.{ltb-true, eqb-false, not-true}
+use borrow.Table.Steps.{cases}
+use Rattle.truth.specs.Truth.{and-both}
+use Rattle.model.specs.declared.Flow.{Flow}
+use Rattle.model.specs.Model.{Event, enable, disable, History, empty, _▸_, enabled, Enabled*, Flows, own, next}
+use Rattle.model.specs.Model.{greatest, isEnabled, joins, joined, acceptedFrom, accepted}
+
+-- FLOWS: 'for the empty history it is the start', Enabled* for one event, and Flows · Enabled* for one more
+
+pub flows-empty : (n t c : ℕ) → Flows n empty t c ↔ ((t ≡ c) × (c < n))
+flows-empty n t c = (fore, λ p. subst (λ (x : ℕ). Flows n empty x c) (sym (p .0)) (own (p .1)))
+  where
+    fore : {t c : ℕ} → Flows n empty t c → (t ≡ c) × (c < n)
+    fore (own l) = (refl, l)
+
+pub flows-next : (n : ℕ) (h : History) (e : Event) (t c : ℕ) → Flows n (h ▸ e) t c ↔ ((a : ℕ) × Flows n h t a × Enabled* (h ▸ e) a c)
+flows-next n h e t c = (fore, λ p. next e (p .1) (p .2))
+  where
+    fore : {h : History} {e : Event} {t c : ℕ} → Flows n (h ▸ e) t c → (a : ℕ) × Flows n h t a × Enabled* (h ▸ e) a c
+    fore (next {a = a} e p q) = (a, p, q)
+
+pub flows-one : (n : ℕ) (e : Event) (t c : ℕ) → Flows n (empty ▸ e) t c ↔ ((t < n) × Enabled* (empty ▸ e) t c)
+flows-one n e t c = (λ p. let r = flows-next n empty e t c .0 p in let s = flows-empty n t (r .0) .0 (r .1) in (omega (arith, s .0, s .1), subst (λ (x : ℕ). Enabled* (empty ▸ e) x c) (sym (s .0)) (r .2)), λ p. next e (own (p .0)) (p .1))
+
+-- THE ACCEPTED HISTORY: each event of it joined what was accepted before
+
+pub data Accepted (n : ℕ) : History → Type 0 where
+  none : Accepted n empty
+  more : {h : History} → Accepted n h → (e : Event) → joins n h e ≡ true → Accepted n (h ▸ e)
+
+-- one more event: it joins, or it changes nothing
+joined-cases : (n : ℕ) (h : History) (e : Event) → Accepted n h → Accepted n (joined n h e)
+unfolding joined
+joined-cases n h e a = go (joins n h e) refl
+  where
+    go : (b : Bool) → joins n h e ≡ b → Accepted n (cond b (h ▸ e) h)
+    go true q = more a e q
+    go false q = a
+
+accepted-from : (n : ℕ) (es : List Event) (h : History) → Accepted n h → Accepted n (acceptedFrom n h es)
+unfolding acceptedFrom
+accepted-from n [] h a = a
+accepted-from n (e ∷ es) h a = accepted-from n es (joined n h e) (joined-cases n h e a)
+
+pub accepted-each : (n : ℕ) (es : List Event) → Accepted n (accepted n es)
+accepted-each n es = accepted-from n es empty none
+
+-- what joins is added, what does not changes nothing
+pub joins-added : (n : ℕ) (h : History) (e : Event) → joins n h e ≡ true → joined n h e ≡ h ▸ e
+unfolding joined
+joins-added n h e q = ap (λ (b : Bool). cond b (h ▸ e) h) q
+
+pub not-joins-same : (n : ℕ) (h : History) (e : Event) → joins n h e ≡ false → joined n h e ≡ h
+unfolding joined
+not-joins-same n h e q = ap (λ (b : Bool). cond b (h ▸ e) h) q
+
+-- an event of the history
+pub data Occurs (e : Event) : History → Type 0 where
+  last : {h : History} → Occurs e (h ▸ e)
+  before : {h : History} (e' : Event) → Occurs e h → Occurs e (h ▸ e')
+
+-- AN ENABLE JOINS exactly if its ends are below n and differ, its number is above the greatest, and fewer than 512 flows are enabled
+pub record MayEnable (n : ℕ) (h : History) (f : Flow) : Type 0 where
+  pub from-below : f .from < n
+  pub to-below : f .to < n
+  pub differ : f .from ≢ f .to
+  pub above : greatest h < f .number
+  pub room : length (enabled h) < 512
+
+pub enable-joins : (n : ℕ) (h : History) (f : Flow) → joins n h (enable f) ≡ true → MayEnable n h f
+unfolding joins
+enable-joins n h f q =
+    let a = and-both (ltb (f .from) n && ltb (f .to) n && not (eqb (f .from) (f .to)) && ltb (greatest h) (f .number)) (ltb (length (enabled h)) 512) q in
+    let b = and-both (ltb (f .from) n && ltb (f .to) n && not (eqb (f .from) (f .to))) (ltb (greatest h) (f .number)) (a .0) in
+    let c = and-both (ltb (f .from) n && ltb (f .to) n) (not (eqb (f .from) (f .to))) (b .0) in
+    let d = and-both (ltb (f .from) n) (ltb (f .to) n) (c .0) in
+    record {
+      from-below = ltb-true (f .from) n (d .0);
+      to-below = ltb-true (f .to) n (d .1);
+      differ = eqb-false (f .from) (f .to) (not-true (eqb (f .from) (f .to)) (c .1));
+      above = ltb-true (greatest h) (f .number) (b .1);
+      room = ltb-true (length (enabled h)) 512 (a .1);
+    }
+
+-- an event of a history is the last one or an earlier one
+occurs-cases : {e e' : Event} {h : History} → Occurs e (h ▸ e') → (e ≡ e') ⊎ Occurs e h
+occurs-cases last = inl refl
+occurs-cases (before e' o) = inr o
+
+-- every number accepted is at least 1 and at most the greatest, so 'an opening's number is greater than that of every opening accepted before'
+pub numbers-rise : {n : ℕ} {h : History} → Accepted n h → (f : Flow) → Occurs (enable f) h → (1 ≤ f .number) × (f .number ≤ greatest h)
+unfolding greatest
+numbers-rise {n} (more {h} a (enable g) q) f o = go (numbers-rise a f) (enable-joins n h g q .above) (occurs-cases o)
+  where
+    go : (Occurs (enable f) h → (1 ≤ f .number) × (f .number ≤ greatest h)) → greatest h < g .number → (enable f ≡ enable g) ⊎ Occurs (enable f) h
+        → (1 ≤ f .number) × (f .number ≤ g .number)
+    go r p (inl e) = let s : f ≡ g = cc in let u : f .number ≡ g .number = ap (λ (x : Flow). x .number) s in (omega (arith, u, p), omega (arith, u))
+    go r p (inr o) = let s = r o in (s .0, omega (arith, s .1, p))
+numbers-rise (more {h} a (disable k) q) f o = go (numbers-rise a f) (occurs-cases o)
+  where
+    go : (Occurs (enable f) h → (1 ≤ f .number) × (f .number ≤ greatest h)) → (enable f ≡ disable k) ⊎ Occurs (enable f) h
+        → (1 ≤ f .number) × (f .number ≤ greatest h)
+    go r (inl e) = absurd (false≢true (sym (ap enables e)))
+      where
+        enables : Event → Bool
+        enables (enable g) = true
+        enables (disable j) = false
+    go r (inr o) = r o

@@ -1,0 +1,47 @@
+-- The sets after an event in the paper's words: a container has a tag exactly if a container had it that this one is reached from. Assumes nothing.
+use mathlib.Core.Path.{_≡_, refl, sym, ap, ap₂, _∙_}
+use mathlib.Core.Bool.{Bool, true, false, _&&_, _||_, cond}
+use mathlib.Core.Logic.{_↔_}
+use mathlib.Core.List.{List}
+use Prim.Native.Nat.{ℕ, zero, suc, _<_}
+use Rattle.truth.specs.Truth.{and-both, both-and}
+use Rattle.model.specs.declared.Flow.{Flow}
+use Rattle.model.specs.Model.{edgesOf}
+use Rattle.model.specs.Reach.{reaches}
+use Rattle.tagset.specs.declared.TagSet.{TagSet}
+use Rattle.tagset.specs.Set.{has, emptySet, unionOf, anyBelow}
+use Rattle.tagset.specs.Below.{any-find, any-make}
+use Rattle.tagset.specs.Laws.{union-has, empty-has}
+use Rattle.state.specs.State.{setAt}
+use Rattle.state.specs.Layout.{set-written}
+use Rattle.tracker.specs.Outcome.{unionOver, propagated}
+
+-- a tag is in the united sets exactly if it is in one of them
+pub union-over-has : (n : ℕ) (p : ℕ → Bool) (f : ℕ → TagSet) (t : ℕ) → has (unionOver n p f) t ≡ anyBelow n (λ a. p a && has (f a) t)
+unfolding unionOver anyBelow
+union-over-has zero p f t = empty-has t
+union-over-has (suc n) p f t = go (p n) (union-over-has n p f t)
+  where
+    go : (b : Bool) → has (unionOver n p f) t ≡ anyBelow n (λ a. p a && has (f a) t)
+        → has (cond b (unionOf (f n) (unionOver n p f)) (unionOver n p f)) t ≡ (b && has (f n) t) || anyBelow n (λ a. p a && has (f a) t)
+    go true e = union-has (f n) (unionOver n p f) t ∙ ap (λ (x : Bool). has (f n) t || x) e
+    go false e = e
+
+-- what propagation leaves in a container's set
+pub propagated-has : (n : ℕ) (fs : List Flow) (ws : List ℕ) (b t : ℕ) → b < n
+    → (has (setAt (propagated n fs ws) b) t ≡ true) ↔ ((a : ℕ) × (a < n) × (reaches n (edgesOf fs) a b ≡ true) × (has (setAt ws a) t ≡ true))
+unfolding propagated
+propagated-has n fs ws b t l =
+    rw (set-written n (λ b. unionOver n (λ a. reaches n (edgesOf fs) a b) (setAt ws)) ws b t l, union-over-has n (λ a. reaches n (edgesOf fs) a b) (setAt ws) t) (fore, back)
+  where
+    test : ℕ → Bool
+    test a = reaches n (edgesOf fs) a b && has (setAt ws a) t
+
+    fore : anyBelow n test ≡ true → (a : ℕ) × (a < n) × (reaches n (edgesOf fs) a b ≡ true) × (has (setAt ws a) t ≡ true)
+    fore e =
+        let r = any-find n test e in
+        let s = and-both (reaches n (edgesOf fs) (r .0) b) (has (setAt ws (r .0)) t) (r .2) in
+        (r .0, r .1, s .0, s .1)
+
+    back : (a : ℕ) × (a < n) × (reaches n (edgesOf fs) a b ≡ true) × (has (setAt ws a) t ≡ true) → anyBelow n test ≡ true
+    back r = any-make n test (r .0) (r .1) (both-and (r .2) (r .3))

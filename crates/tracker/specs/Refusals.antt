@@ -1,0 +1,66 @@
+-- A refused call changes nothing, and the refusal answered is the first whose condition holds. Assumes nothing.
+use mathlib.Core.Path.{_≡_, refl, sym, _∙_}
+use mathlib.Core.Bool.{Bool, true, false}
+use mathlib.Core.Logic.{_⊎_, inl, inr, _↔_}
+use mathlib.Core.List.{List, [], _∷_}
+use Prim.Native.Nat.{ℕ, zero, suc}
+use native.Mathlib.Nat.{suc-ne-zero}
+use Rattle.refusal.specs.Order.{firstOf, NoneHolds, IsFirst, first-is, first-none, first-cases}
+use Rattle.model.specs.declared.Flow.{Flow}
+use Rattle.model.specs.Model.{enable, disable}
+use Rattle.state.specs.State.{Storage, State}
+use Rattle.tracker.specs.Outcome.{Outcome, decided, noHeader, startOrder, started, startOf, enableOrder, enableOf, disableOrder, disableOf, Call, ask, outcomeOf, orderOf}
+
+-- a number is answered exactly if it stands beside the first condition that holds
+pub first-number : (cs : List (Bool × ℕ)) (k : ℕ) → (firstOf cs 0 ≡ suc k) ↔ IsFirst cs (suc k)
+first-number cs k = (λ e. pick e (first-cases cs 0), λ h. first-is cs 0 h)
+  where
+    pick : firstOf cs 0 ≡ suc k → NoneHolds cs ⊎ IsFirst cs (firstOf cs 0) → IsFirst cs (suc k)
+    pick e (inl none) = absurd (suc-ne-zero k (sym e ∙ first-none cs 0 none))
+    pick e (inr h) = rw e at h
+
+-- the outcome has the number that was decided on
+pub decided-number : (r : ℕ) (s : State) (gain : ℕ) (s' : State) → decided r s gain s' .refusal ≡ r
+unfolding decided
+decided-number zero s gain s' = refl
+decided-number (suc k) s gain s' = refl
+
+-- where that is not 0, the state is the one before and nothing is gained
+pub decided-refused : (r : ℕ) (s : State) (gain : ℕ) (s' : State) (k : ℕ) → decided r s gain s' .refusal ≡ suc k
+    → (decided r s gain s' .state ≡ s) × (decided r s gain s' .gain ≡ 0)
+unfolding decided
+decided-refused zero s gain s' k e = absurd (suc-ne-zero k (sym e))
+decided-refused (suc r) s gain s' k e = (refl, refl)
+
+-- and where it is 0, the work is done
+pub decided-done : (r : ℕ) (s : State) (gain : ℕ) (s' : State) → decided r s gain s' .refusal ≡ 0
+    → (decided r s gain s' .state ≡ s') × (decided r s gain s' .gain ≡ gain)
+unfolding decided
+decided-done zero s gain s' e = (refl, refl)
+decided-done (suc r) s gain s' e = absurd (suc-ne-zero r e)
+
+-- every outcome is decided by the call's order
+pub outcome-decided : (s : State) (c : Call) → (gain : ℕ) × (s' : State) × (outcomeOf s c ≡ decided (firstOf (orderOf s c) 0) s gain s')
+unfolding outcomeOf orderOf enableOf disableOf
+outcome-decided s (ask (enable f)) = (_, _, refl)
+outcome-decided s (ask (disable k)) = (_, _, refl)
+
+-- REFUSAL k is answered exactly if its condition holds and none before it in the order does
+pub start-refusal : (n : ℕ) (lent : Storage) (k : ℕ) → (startOf n lent .refusal ≡ suc k) ↔ IsFirst (startOrder n lent) (suc k)
+unfolding startOf
+start-refusal n lent k =
+    rw (decided-number (firstOf (startOrder n lent) 0) (record { header = noHeader; storage = lent }) 0 (started n lent)) (first-number (startOrder n lent) k)
+
+pub call-refusal : (s : State) (c : Call) (k : ℕ) → (outcomeOf s c .refusal ≡ suc k) ↔ IsFirst (orderOf s c) (suc k)
+call-refusal s c k =
+    let w = outcome-decided s c in
+    rw (w .2, decided-number (firstOf (orderOf s c) 0) s (w .0) (w .1)) (first-number (orderOf s c) k)
+
+-- A REFUSED CALL gains 0 and leaves header and lists as they were; a refused start answers a header of zeros
+pub start-refused : (n : ℕ) (lent : Storage) (k : ℕ) → startOf n lent .refusal ≡ suc k
+    → (startOf n lent .state ≡ record { header = noHeader; storage = lent }) × (startOf n lent .gain ≡ 0)
+unfolding startOf
+start-refused n lent k = decided-refused (firstOf (startOrder n lent) 0) (record { header = noHeader; storage = lent }) 0 (started n lent) k
+
+pub call-refused : (s : State) (c : Call) (k : ℕ) → outcomeOf s c .refusal ≡ suc k → (outcomeOf s c .state ≡ s) × (outcomeOf s c .gain ≡ 0)
+call-refused s c k = let w = outcome-decided s c in rw (w .2) (decided-refused (firstOf (orderOf s c) 0) s (w .0) (w .1) k)

@@ -1,0 +1,1 @@
+// Laws of truth values: specs/ only.
