@@ -193,3 +193,15 @@ unused-flow s v i h l =
     sym (getD-drop k (take 512 (s .storage .flows)) (i - k) noFlow
     ∙ ap (λ (j : ℕ). getD (take 512 (s .storage .flows)) j noFlow) at ∙ getD-take 512 (s .storage .flows) i noFlow l)
     ∙ no-flow (getD unused (i - k) noFlow) (all-of-at isNoFlow unused (i - k) noFlow refl (v .unused-flows))
+
+-- a state that no call refuses for its storage (9) or its content (12)
+pub record Usable (s : State) : Type 0 where
+  pub sized : IsSized (s .header .containers) (s .storage)
+  pub valid : IsValid s
+
+-- the two tests pass exactly on these
+pub usable : (s : State) → ((badSize (s .header .containers) (s .storage) ≡ false) × (validOf s ≡ true)) ↔ Usable s
+usable s = (
+  λ p. record { sized = sized (s .header .containers) (s .storage) .0 (p .0); valid = valid s .0 (p .1) },
+  λ u. (sized (s .header .containers) (s .storage) .1 (u .sized), valid s .1 (u .valid)),
+)
