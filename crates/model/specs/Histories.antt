@@ -1,7 +1,7 @@
 -- Flows and the accepted history in the papers' words. Assumes nothing.
 use mathlib.Core.Path.{_≡_, refl, sym, ap, _∙_, subst}
 use mathlib.Core.Bool.{Bool, true, false, _&&_, not, cond, false≢true}
-use mathlib.Core.Logic.{_⊎_, inl, inr, _↔_, _≢_}
+use mathlib.Core.Logic.{_⊎_, inl, inr, _↔_, Iff·rfl, _≢_}
 use mathlib.Core.List.{List, [], _∷_, _++_}
 use mathlib.Mathlib.Logic.Relation.{ReflTransGenᴰ, ReflTransGenᴰ·refl, ReflTransGenᴰ·tail}
 use Prim.Native.Nat.{ℕ, zero, suc, _≤_, _<_}
@@ -10,7 +10,7 @@ use lib.Dec.{ltb, eqb}
 use lib.ListN.{length}
 use borrow.Author.Tests.{ltb-true, eqb-false, not-true}
 use borrow.Table.Steps.{cases}
-use Rattle.truth.specs.Truth.{and-both}
+use Rattle.truth.specs.Truth.{and-iff, not-iff, lt-iff, ne-iff}
 use Rattle.model.specs.declared.Flow.{Flow}
 use Rattle.model.specs.Model.{Event, enable, disable, History, empty, _▸_, enabled, Enabled*, Flows, own, next}
 use Rattle.model.specs.Model.{greatest, isEnabled, joins, joined, acceptedFrom, accepted}
@@ -77,20 +77,19 @@ pub record MayEnable (n : ℕ) (h : History) (f : Flow) : Type 0 where
   pub above : greatest h < f .number
   pub room : length (enabled h) < 512
 
-pub enable-joins : (n : ℕ) (h : History) (f : Flow) → joins n h (enable f) ≡ true → MayEnable n h f
+pub enable-joins : (n : ℕ) (h : History) (f : Flow) → (joins n h (enable f) ≡ true) ↔ MayEnable n h f
 unfolding joins
-enable-joins n h f q =
-    let a = and-both (ltb (f .from) n && ltb (f .to) n && not (eqb (f .from) (f .to)) && ltb (greatest h) (f .number)) (ltb (length (enabled h)) 512) q in
-    let b = and-both (ltb (f .from) n && ltb (f .to) n && not (eqb (f .from) (f .to))) (ltb (greatest h) (f .number)) (a .0) in
-    let c = and-both (ltb (f .from) n && ltb (f .to) n) (not (eqb (f .from) (f .to))) (b .0) in
-    let d = and-both (ltb (f .from) n) (ltb (f .to) n) (c .0) in
-    record {
-      from-below = ltb-true (f .from) n (d .0);
-      to-below = ltb-true (f .to) n (d .1);
-      differ = eqb-false (f .from) (f .to) (not-true (eqb (f .from) (f .to)) (c .1));
-      above = ltb-true (greatest h) (f .number) (b .1);
-      room = ltb-true (length (enabled h)) 512 (a .1);
-    }
+enable-joins n h f =
+    simp (and-iff, not-iff, lt-iff, ne-iff) (
+      λ ((((from, to), differ), above), room).
+          record { from-below = from; to-below = to; differ = differ; above = above; room = room },
+      λ m. ((((m .from-below, m .to-below), m .differ), m .above), m .room),
+    )
+
+-- a disable joins exactly if a flow with its number is enabled
+pub disable-joins : (n : ℕ) (h : History) (k : ℕ) → (joins n h (disable k) ≡ true) ↔ (isEnabled k (enabled h) ≡ true)
+unfolding joins
+disable-joins n h k = Iff·rfl
 
 -- an event of a history is the last one or an earlier one
 occurs-cases : {e e' : Event} {h : History} → Occurs e (h ▸ e') → (e ≡ e') ⊎ Occurs e h
@@ -100,7 +99,7 @@ occurs-cases (before e' o) = inr o
 -- every number accepted is at least 1 and at most the greatest, so 'an opening's number is greater than that of every opening accepted before'
 pub numbers-rise : {n : ℕ} {h : History} → Accepted n h → (f : Flow) → Occurs (enable f) h → (1 ≤ f .number) × (f .number ≤ greatest h)
 unfolding greatest
-numbers-rise {n} (more {h} a (enable g) q) f o = go (numbers-rise a f) (enable-joins n h g q .above) (occurs-cases o)
+numbers-rise {n} (more {h} a (enable g) q) f o = go (numbers-rise a f) (enable-joins n h g .0 q .above) (occurs-cases o)
   where
     go : (Occurs (enable f) h → (1 ≤ f .number) × (f .number ≤ greatest h)) → greatest h < g .number → (enable f ≡ enable g) ⊎ Occurs (enable f) h
         → (1 ≤ f .number) × (f .number ≤ g .number)

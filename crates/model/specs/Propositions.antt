@@ -164,11 +164,10 @@ flows-tag (next e p q) = flows-tag p
 
 -- THE THEOREM. Where a configuration of n containers has exactly the pairs of Flows, an execution leaves it exactly if no execution of the history
 -- puts a tag where this one does not; and there is such an execution
-pub Exact : ℕ → History → Configuration → Type 0
+abbrev pub Exact : ℕ → History → Configuration → Type 0
 Exact n h θ = ((x : Execution h) → (configuration n x ≡ θ) ↔ IsGreatest n x) × ((x : Execution h) × (configuration n x ≡ θ))
 
 pub exact : (n : ℕ) (h : History) (θ : Configuration) → ((c t : ℕ) → θ c t ≡ true → c < n) → ((c t : ℕ) → (θ c t ≡ true) ↔ Flows n h t c) → Exact n h θ
-unfolding Exact
 exact n h θ inside tells = (λ x. (λ e. fore x e, λ g. same x (λ c t q. g (best .0) c t (best .1 c t q))), (best .0, same (best .0) (best .1)))
   where
     -- no execution has more than θ, so one that has all of θ leaves θ

@@ -10,7 +10,7 @@ use lib.Dec.{leb, ltb, eqb}
 use lib.ListN.{length, getD, take, drop}
 use lib.Seq.{getD-take, getD-drop}
 use borrow.Author.Tests.{eqb-true, eqb-false, eq-eqb, ne-eqb, ltb-false, le-ltb, leb-true, le-leb, not-true}
-use Rattle.truth.specs.Truth.{and-both, and-iff}
+use Rattle.truth.specs.Truth.{and-both, and-iff, neither-iff, not-iff, le-iff, lt-iff, not-lt-iff, eq-iff, ne-iff}
 use Rattle.model.specs.declared.Flow.{Flow}
 use Rattle.model.specs.Model.{_∈_, edgesOf}
 use Rattle.tagset.specs.declared.TagSet.{TagSet}
@@ -22,35 +22,10 @@ use Rattle.state.specs.Valid.{allOf, risingFrom, inLimits, countsInLimit
 
 -- Tests, each with what it says
 
--- neither test passes
-or-iff : (a b : Bool) → (a || b ≡ false) ↔ ((a ≡ false) × (b ≡ false))
-or-iff true b = (λ e. (e, absurd (false≢true (sym e))), λ p. p .0)
-or-iff false b = (λ e. (refl, e), λ p. p .1)
-
 -- the second test passes where the first does
 implies-iff : (a b : Bool) → (implies a b ≡ true) ↔ (a ≡ true → b ≡ true)
 implies-iff true b = (λ e h. e, λ f. f refl)
 implies-iff false b = (λ e h. absurd (false≢true h), λ f. refl)
-
--- a number is at most another
-leb-iff : (a b : ℕ) → (leb a b ≡ true) ↔ (a ≤ b)
-leb-iff a b = (leb-true a b, le-leb a b)
-
--- a number is not below another
-ltb-iff : (a b : ℕ) → (ltb a b ≡ false) ↔ (b ≤ a)
-ltb-iff a b = (ltb-false a b, le-ltb a b)
-
--- two numbers are the same
-eqb-iff : (a b : ℕ) → (eqb a b ≡ true) ↔ (a ≡ b)
-eqb-iff a b = (eqb-true a b, eq-eqb a b)
-
--- two numbers differ
-ne-iff : (a b : ℕ) → (eqb a b ≡ false) ↔ (a ≢ b)
-ne-iff a b = (eqb-false a b, ne-eqb a b)
-
--- a test fails
-not-iff : (a : Bool) → (not a ≡ true) ↔ (a ≡ false)
-not-iff a = (not-true a, λ e. ap not e)
 
 -- every number below n passes
 all-below-iff : (n : ℕ) (f : ℕ → Bool) → (allBelow n f ≡ true) ↔ ((k : ℕ) → k < n → f k ≡ true)
@@ -82,7 +57,7 @@ subset-iff : (a b : TagSet) → (subsetOf a b ≡ true) ↔ ((t : ℕ) → has a
 subset-iff a b = (subset-has a b, subset-of-has a b)
 
 -- what the tests above say, for `simp`
-ruleset tests = (and-iff, or-iff, implies-iff, not-iff, leb-iff, ltb-iff, eqb-iff, ne-iff, all-below-iff, all-of-iff, known-iff, subset-iff)
+ruleset tests = (and-iff, neither-iff, implies-iff, not-iff, le-iff, lt-iff, not-lt-iff, eq-iff, ne-iff, all-below-iff, all-of-iff, known-iff, subset-iff)
 
 -- Refusal 9
 

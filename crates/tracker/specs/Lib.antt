@@ -1,4 +1,9 @@
 pub mod Outcome
 pub mod Refusals
 pub mod Propagation
+pub mod Stays
+pub mod Accepted
+pub mod Effects
+pub mod Follows
+pub mod Claims
 pub mod Samples

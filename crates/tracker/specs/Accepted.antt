@@ -1,0 +1,129 @@
+-- Accepted calls: which they are, what they leave, and the paper's sentence on the sets after them. Assumes nothing.
+use mathlib.Core.Path.{_≡_, refl, sym, ap, _∙_, subst}
+use mathlib.Core.Bool.{true, false}
+use mathlib.Core.List.{List, [], _∷_, _++_}
+use mathlib.Core.Logic.{_↔_, _≢_, Iff·rfl, Iff·symm, Iff·trans}
+use mathlib.Mathlib.Logic.Relation.{ReflTransGenᴰ}
+use Prim.Native.Nat.{ℕ, zero, suc, _<_}
+use Rattle.truth.specs.Truth.{not-not-iff, not-le-iff, ne-iff}
+use Rattle.refusal.specs.Order.{firstOf, NoneHolds}
+use Rattle.model.specs.declared.Flow.{Flow}
+use Rattle.model.specs.Model.{_∈_, Event, enable, disable, without, edgesOf, isEnabled}
+use Rattle.model.specs.Closure.{Within, reaches-sound, reaches-complete}
+use Rattle.model.specs.Standing.{without-part}
+use Rattle.tagset.specs.Set.{has}
+use Rattle.state.specs.State.{Storage, State, setAt, flowsOf}
+use Rattle.state.specs.IsValid.{Usable, usable}
+use Rattle.tracker.specs.Outcome.{noHeader, startOrder, started, startOf, propagated, changed, enableOrder, enableOf, disableOrder, disableOf, ask, outcomeOf, orderOf}
+use Rattle.tracker.specs.Refusals.{decided-done, call-accepted, call-refused, start-accepted}
+use Rattle.tracker.specs.Propagation.{propagated-has}
+use Rattle.tracker.specs.Stays.{changed-flows, start-usable, enable-usable, disable-usable, flows-within, settled}
+
+-- WHICH CALLS ARE ACCEPTED
+
+-- no condition of an enable's order holds
+pub record Enables (s : State) (f : Flow) : Type 0 where
+  pub before : Usable s
+  pub from-below : f .from < s .header .containers
+  pub to-below : f .to < s .header .containers
+  pub differ : f .from ≢ f .to
+  pub above : s .header .greatest < f .number
+  pub room : s .header .enabled < 512
+
+pub enable-accepted : (s : State) (f : Flow) → (outcomeOf s (ask (enable f)) .refusal ≡ 0) ↔ Enables s f
+unfolding orderOf enableOrder
+enable-accepted s f = (λ a. fore (call-accepted s (ask (enable f)) .0 a), λ e. call-accepted s (ask (enable f)) .1 (back e))
+  where
+    fore : NoneHolds (enableOrder s f) → Enables s f
+    fore =
+        simp (not-not-iff, not-le-iff, ne-iff)
+        (λ (b, (v, (x, (y, (d, (g, (r, z))))))). record { before = usable s .0 (b, v); from-below = x; to-below = y; differ = d; above = g; room = r })
+    back : Enables s f → NoneHolds (enableOrder s f)
+    back e =
+        let u = usable s .1 (e .before) in
+        simp (not-not-iff, not-le-iff, ne-iff) (u .0, (u .1, (e .from-below, (e .to-below, (e .differ, (e .above, (e .room, tt)))))))
+
+-- no condition of a disable's order holds
+pub disable-accepted : (s : State) (k : ℕ) → (outcomeOf s (ask (disable k)) .refusal ≡ 0) ↔ (Usable s × (isEnabled k (flowsOf s) ≡ true))
+unfolding orderOf disableOrder
+disable-accepted s k = (λ a. fore (call-accepted s (ask (disable k)) .0 a), λ e. call-accepted s (ask (disable k)) .1 (back e))
+  where
+    fore : NoneHolds (disableOrder s k) → Usable s × (isEnabled k (flowsOf s) ≡ true)
+    fore = simp not-not-iff (λ (b, (v, (i, z))). (usable s .0 (b, v), i))
+    back : Usable s × (isEnabled k (flowsOf s) ≡ true) → NoneHolds (disableOrder s k)
+    back e = let u = usable s .1 (e .0) in simp not-not-iff (u .0, (u .1, (e .1, tt)))
+
+-- WHAT THEY LEAVE
+
+-- what an accepted start leaves
+pub start-leaves : (n : ℕ) (lent : Storage) → startOf n lent .refusal ≡ 0 → startOf n lent .state ≡ started n lent
+unfolding startOf
+start-leaves n lent a = decided-done (firstOf (startOrder n lent) 0) (record { header = noHeader; storage = lent }) 0 (started n lent) a .0
+
+-- what an accepted enable or disable leaves
+pub enable-leaves : (s : State) (f : Flow) → outcomeOf s (ask (enable f)) .refusal ≡ 0
+    → outcomeOf s (ask (enable f)) .state
+    ≡ changed s (flowsOf s ++ (f ∷ [])) (f .number) (propagated (s .header .containers) (flowsOf s ++ (f ∷ [])) (s .storage .tags))
+unfolding outcomeOf enableOf
+enable-leaves s f a = decided-done (firstOf (enableOrder s f) 0) s _ _ a .0
+
+pub disable-leaves : (s : State) (k : ℕ) → outcomeOf s (ask (disable k)) .refusal ≡ 0
+    → outcomeOf s (ask (disable k)) .state ≡ changed s (without k (flowsOf s)) (s .header .greatest) (s .storage .tags)
+unfolding outcomeOf disableOf
+disable-leaves s k a = decided-done (firstOf (disableOrder s k) 0) s _ _ a .0
+
+-- a usable state
+pub start-makes-usable : (n : ℕ) (lent : Storage) → startOf n lent .refusal ≡ 0 → Usable (startOf n lent .state)
+start-makes-usable n lent a = rw (start-leaves n lent a) (start-usable n lent (start-accepted n lent .0 a))
+
+enable-leaves-usable : (s : State) (f : Flow) → outcomeOf s (ask (enable f)) .refusal ≡ 0 → Usable (outcomeOf s (ask (enable f)) .state)
+enable-leaves-usable s f a =
+    let e = enable-accepted s f .0 a in
+    rw (enable-leaves s f a) (enable-usable s f (e .before) (e .from-below) (e .to-below) (e .differ) (e .above) (e .room))
+
+disable-leaves-usable : (s : State) (k : ℕ) → outcomeOf s (ask (disable k)) .refusal ≡ 0 → Usable (outcomeOf s (ask (disable k)) .state)
+disable-leaves-usable s k a = rw (disable-leaves s k a) (disable-usable s k (disable-accepted s k .0 a .0))
+
+pub event-leaves-usable : (s : State) (e : Event) → outcomeOf s (ask e) .refusal ≡ 0 → Usable (outcomeOf s (ask e) .state)
+event-leaves-usable s (enable f) = enable-leaves-usable s f
+event-leaves-usable s (disable k) = disable-leaves-usable s k
+
+-- THE SETS AFTER AN EVENT
+
+-- document 01: 'after each event, holder b has tag t exactly if some holder a had t before the event and b can be reached from a by zero or more
+-- channels open after the event'; here `s` is before and `s'` after it
+abbrev pub Sentence : State → State → Type 0
+Sentence s s' =
+    (b t : ℕ) → b < s .header .containers
+    → (has (setAt (s' .storage .tags) b) t ≡ true)
+    ↔ ((a : ℕ) × (a < s .header .containers) × (has (setAt (s .storage .tags) a) t ≡ true) × ReflTransGenᴰ (λ x y. (x, y) ∈ edgesOf (flowsOf s')) a b)
+
+-- what propagation leaves in a container's set, by the closure of the ways
+pub propagated-sentence : (n : ℕ) (fs : List Flow) (ws : List ℕ) → Within n (edgesOf fs) → (b t : ℕ) → b < n
+    → (has (setAt (propagated n fs ws) b) t ≡ true)
+    ↔ ((a : ℕ) × (a < n) × (has (setAt ws a) t ≡ true) × ReflTransGenᴰ (λ x y. (x, y) ∈ edgesOf fs) a b)
+propagated-sentence n fs ws w b t l = (
+  λ h. let r = propagated-has n fs ws b t l .0 h in (r .0, r .1, r .3, reaches-sound n (edgesOf fs) (r .0) b (r .2)),
+  λ r. propagated-has n fs ws b t l .1 (r .0, r .1, reaches-complete n (edgesOf fs) w (r .1) (r .3), r .2),
+)
+
+-- the sentence holds of a changed state whose sets are those that propagation leaves
+changed-sentence : (s : State) (fs : List Flow) (greatest : ℕ) (tags : List ℕ) → Usable (changed s fs greatest tags)
+    → ((b t : ℕ) → b < s .header .containers → (has (setAt tags b) t ≡ true) ↔ (has (setAt (propagated (s .header .containers) fs (s .storage .tags)) b) t ≡ true))
+    → Sentence s (changed s fs greatest tags)
+unfolding changed
+changed-sentence s fs greatest tags u same b t l =
+    let flows : flowsOf (changed s fs greatest tags) ≡ fs = changed-flows s fs greatest tags in
+    let within : Within (s .header .containers) (edgesOf fs) = rw flows at (flows-within (changed s fs greatest tags) (u .valid)) in
+    rw flows (Iff·trans (same b t l) (propagated-sentence (s .header .containers) fs (s .storage .tags) within b t l))
+
+-- and of every accepted event, enable or disable
+pub event-sentence : (s : State) (e : Event) → outcomeOf s (ask e) .refusal ≡ 0 → Sentence s (outcomeOf s (ask e) .state)
+event-sentence s (enable f) a =
+    rw (enable-leaves s f a)
+    (changed-sentence s (flowsOf s ++ (f ∷ [])) (f .number) (propagated (s .header .containers) (flowsOf s ++ (f ∷ [])) (s .storage .tags))
+    (rw (enable-leaves s f a) at (enable-leaves-usable s f a)) (λ b t l. Iff·rfl))
+event-sentence s (disable k) a =
+    rw (disable-leaves s k a)
+    (changed-sentence s (without k (flowsOf s)) (s .header .greatest) (s .storage .tags) (rw (disable-leaves s k a) at (disable-leaves-usable s k a))
+    (λ b t l. Iff·symm (settled s (without k (flowsOf s)) (disable-accepted s k .0 a .0) (λ f. without-part k (flowsOf s)) b t l)))

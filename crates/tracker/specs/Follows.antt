@@ -1,0 +1,160 @@
+-- The tracker follows the accepted history: after each call its flows, its greatest number and its sets are those of the history. Assumes nothing.
+use mathlib.Core.Path.{_≡_, refl, sym, ap, _∙_, subst}
+use mathlib.Core.Bool.{true, false, false≢true}
+use mathlib.Core.List.{List, [], _∷_, _++_}
+use mathlib.Core.Logic.{_↔_, Iff·rfl}
+use mathlib.Mathlib.Logic.Relation.{ReflTransGenᴰ}
+use Prim.Native.Nat.{ℕ, zero, suc, _<_}
+use native.Mathlib.Omega.{arith}
+use lib.Dec.{eqb}
+use lib.ListN.{length}
+use borrow.Table.Steps.{cases}
+use borrow.Author.Tests.{eqb-true, eq-eqb}
+use Rattle.truth.specs.Truth.{and-iff, lt-iff}
+use Rattle.model.specs.declared.Flow.{Flow}
+use Rattle.model.specs.Model.{_∈_, Event, enable, disable, History, empty, _▸_, without, enabled, edgesOf, Flows, greatest, isEnabled, joins, joined, acceptedFrom}
+use Rattle.model.specs.Closure.{Within, reaches-inside, reaches-complete}
+use Rattle.model.specs.Histories.{flows-empty, flows-next, MayEnable, enable-joins, disable-joins, joins-added, not-joins-same}
+use Rattle.tagset.specs.Set.{has}
+use Rattle.state.specs.State.{Storage, State, badSize, setAt, flowsOf}
+use Rattle.state.specs.IsValid.{Usable}
+use Rattle.tracker.specs.Outcome.{started, startOf, propagated, changed, Call, ask, outcomeOf, eventsOf, after, configurationOf}
+use Rattle.tracker.specs.Refusals.{call-refused, start-accepted}
+use Rattle.tracker.specs.Stays.{flows-count, changed-flows, started-has, start-usable, flows-within}
+use Rattle.tracker.specs.Accepted.{Enables, enable-accepted, disable-accepted, start-leaves, enable-leaves, disable-leaves, event-leaves-usable, event-sentence}
+use Rattle.tracker.specs.Effects.{event-containers}
+
+-- the state is what the history makes of n containers
+pub record Follows (n : ℕ) (h : History) (s : State) : Type 0 where
+  pub size : s .header .containers ≡ n
+  pub usable : Usable s
+  pub same-flows : flowsOf s ≡ enabled h
+  pub same-greatest : s .header .greatest ≡ greatest h
+  pub sets : (c t : ℕ) → (configurationOf s c t ≡ true) ↔ Flows n h t c
+
+-- the configuration has the stored tags of the containers below n
+pub configuration-has : (s : State) (c t : ℕ) → (configurationOf s c t ≡ true) ↔ ((c < s .header .containers) × (has (setAt (s .storage .tags) c) t ≡ true))
+unfolding configurationOf
+configuration-has s c t = simp (and-iff, lt-iff) Iff·rfl
+
+-- a started tracker follows the empty history
+pub start-follows : (n : ℕ) (lent : Storage) → badSize n lent ≡ false → Follows n empty (started n lent)
+unfolding started enabled greatest flowsOf
+start-follows n lent b =
+    record { size = refl; usable = start-usable n lent b; same-flows = refl; same-greatest = refl; sets = λ c t. (fore c t, back c t) }
+  where
+    stored : (c t : ℕ) → c < n → has (setAt (started n lent .storage .tags) c) t ≡ eqb t c
+    stored = started-has n lent b
+    fore : (c t : ℕ) → configurationOf (started n lent) c t ≡ true → Flows n empty t c
+    fore c t q =
+        let w = configuration-has (started n lent) c t .0 q in
+        flows-empty n t c .1 (eqb-true t c (sym (stored c t (w .0)) ∙ w .1), w .0)
+    back : (c t : ℕ) → Flows n empty t c → configurationOf (started n lent) c t ≡ true
+    back c t p = let w = flows-empty n t c .0 p in configuration-has (started n lent) c t .1 (w .1, stored c t (w .1) ∙ eq-eqb t c (w .0))
+
+-- ACCEPTED EXACTLY IF IT JOINS
+pub accepted-joins : (n : ℕ) (h : History) (s : State) (e : Event) → Follows n h s → (outcomeOf s (ask e) .refusal ≡ 0) ↔ (joins n h e ≡ true)
+accepted-joins n h s (enable f) w =
+    (λ a. enable-joins n h f .1 (fore (enable-accepted s f .0 a)), λ j. enable-accepted s f .1 (back (enable-joins n h f .0 j)))
+  where
+    count : s .header .enabled ≡ length (enabled h)
+    count = sym (flows-count s (w .usable)) ∙ ap length (w .same-flows)
+    fore : Enables s f → MayEnable n h f
+    fore e =
+        record {
+          from-below = omega (arith, e .from-below, w .size);
+          to-below = omega (arith, e .to-below, w .size);
+          differ = e .differ;
+          above = omega (arith, e .above, w .same-greatest);
+          room = omega (arith, e .room, count);
+        }
+    back : MayEnable n h f → Enables s f
+    back m =
+        record {
+          before = w .usable;
+          from-below = omega (arith, m .from-below, w .size);
+          to-below = omega (arith, m .to-below, w .size);
+          differ = m .differ;
+          above = omega (arith, m .above, w .same-greatest);
+          room = omega (arith, m .room, count);
+        }
+accepted-joins n h s (disable k) w =
+    (
+      λ a. disable-joins n h k .1 (sym (ap (isEnabled k) (w .same-flows)) ∙ disable-accepted s k .0 a .1),
+      λ j. disable-accepted s k .1 (w .usable, ap (isEnabled k) (w .same-flows) ∙ disable-joins n h k .0 j),
+    )
+
+-- ONE CALL
+
+-- a container that is reached from one below n is below n, where all ways are
+reached-inside : (n : ℕ) (es : List (ℕ × ℕ)) → Within n es → {a b : ℕ} → a < n → ReflTransGenᴰ (λ x y. (x, y) ∈ es) a b → b < n
+reached-inside n es w {a} {b} l p = reaches-inside n es a b (reaches-complete n es w l p) .1
+
+module _ (h : History) (s : State) where
+  abbrev n : ℕ
+  n = s .header .containers
+
+  -- after an accepted event: where the flows and the greatest number are those of the history with it, so are the sets
+  event-follows : (e : Event) → Follows n h s → outcomeOf s (ask e) .refusal ≡ 0 → flowsOf (outcomeOf s (ask e) .state) ≡ enabled (h ▸ e)
+      → outcomeOf s (ask e) .state .header .greatest ≡ greatest (h ▸ e) → Follows n (h ▸ e) (outcomeOf s (ask e) .state)
+  event-follows e w a flows greatest =
+      record { size = size; usable = u; same-flows = flows; same-greatest = greatest; sets = λ c t. (fore c t, back c t) }
+    where
+      s' : State
+      s' = outcomeOf s (ask e) .state
+      size : s' .header .containers ≡ n
+      size = event-containers s e
+      u : Usable s'
+      u = event-leaves-usable s e a
+      within : Within n (edgesOf (flowsOf s'))
+      within = subst (λ (m : ℕ). Within m (edgesOf (flowsOf s'))) size (flows-within s' (u .valid))
+      fore : (c t : ℕ) → configurationOf s' c t ≡ true → Flows n (h ▸ e) t c
+      fore c t q =
+          let v = configuration-has s' c t .0 q in
+          let r = event-sentence s e a c t (omega (arith, v .0, size)) .0 (v .1) in
+          flows-next n h e t c .1 (r .0, w .sets (r .0) t .0 (configuration-has s (r .0) t .1 (r .1, r .2)), rw flows at (r .3))
+      back : (c t : ℕ) → Flows n (h ▸ e) t c → configurationOf s' c t ≡ true
+      back c t p =
+          let r = flows-next n h e t c .0 p in
+          let v = configuration-has s (r .0) t .0 (w .sets (r .0) t .1 (r .1)) in
+          let way : ReflTransGenᴰ (λ x y. (x, y) ∈ edgesOf (flowsOf s')) (r .0) c = rw flows (r .2) in
+          let l = reached-inside n (edgesOf (flowsOf s')) within (v .0) way in
+          configuration-has s' c t .1 (omega (arith, l, size), event-sentence s e a c t l .1 (r .0, v .0, v .1, way))
+
+  -- an event that joins
+  event-joins : (e : Event) → Follows n h s → joins n h e ≡ true → Follows n (h ▸ e) (outcomeOf s (ask e) .state)
+  unfolding changed enabled greatest
+  event-joins (enable f) w j =
+      let a = accepted-joins n h s (enable f) w .1 j in
+      let left = enable-leaves s f a in
+      let fs = flowsOf s ++ (f ∷ []) in
+      event-follows (enable f) w a
+      (ap flowsOf left ∙ changed-flows s fs (f .number) (propagated n fs (s .storage .tags)) ∙ ap (λ (gs : List Flow). gs ++ (f ∷ [])) (w .same-flows))
+      (ap (λ (x : State). x .header .greatest) left)
+  event-joins (disable k) w j =
+      let a = accepted-joins n h s (disable k) w .1 j in
+      let left = disable-leaves s k a in
+      event-follows (disable k) w a
+      (ap flowsOf left ∙ changed-flows s (without k (flowsOf s)) (s .header .greatest) (s .storage .tags) ∙ ap (without k) (w .same-flows))
+      (ap (λ (x : State). x .header .greatest) left ∙ w .same-greatest)
+
+-- the state after a call follows the history after it, whether its event joins or not
+pub call-follows : (n : ℕ) (h : History) (s : State) (e : Event) → Follows n h s → Follows n (joined n h e) (outcomeOf s (ask e) .state)
+call-follows n h s e w =
+    cases (joins n h e)
+    (λ j. rw (joins-added n h e j) (subst (λ (m : ℕ). Follows m h s → joins m h e ≡ true → Follows m (h ▸ e) (outcomeOf s (ask e) .state)) (w .size) (event-joins h s e) w j))
+    (λ j. rw (not-joins-same n h e j) (refused j (outcomeOf s (ask e) .refusal) refl))
+  where
+    refused : joins n h e ≡ false → (r : ℕ) → outcomeOf s (ask e) .refusal ≡ r → Follows n h (outcomeOf s (ask e) .state)
+    refused j zero a = absurd (false≢true (sym j ∙ accepted-joins n h s e w .0 a))
+    refused j (suc k) a = subst (λ (x : State). Follows n h x) (sym (call-refused s (ask e) k a .0)) w
+
+-- and so after a list of calls
+pub calls-follow : (n : ℕ) (cs : List Call) (h : History) (s : State) → Follows n h s → Follows n (acceptedFrom n h (eventsOf cs)) (after s cs)
+unfolding acceptedFrom eventsOf after
+calls-follow n [] h s w = w
+calls-follow n (ask e ∷ cs) h s w = calls-follow n cs (joined n h e) (outcomeOf s (ask e) .state) (call-follows n h s e w)
+
+-- the state that an accepted start leaves follows the empty history
+pub begun-follows : (n : ℕ) (lent : Storage) → startOf n lent .refusal ≡ 0 → Follows n empty (startOf n lent .state)
+begun-follows n lent a = rw (start-leaves n lent a) (start-follows n lent (start-accepted n lent .0 a))
