@@ -4,3 +4,4 @@ pub mod Closure
 pub mod Standing
 pub mod Histories
 pub mod Propositions
+pub mod Table1

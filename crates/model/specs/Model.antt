@@ -29,10 +29,19 @@ infix 50 _∈_
 abbrev pub _∈_ {ℓ} : {A : Type ℓ} → A → List A → Type ℓ
 _∈_ x xs = List·Memᴰ x xs
 
--- these flows but for those with number k
+-- one of these flows has number k
+unfoldable pub isEnabled : ℕ → List Flow → Bool
+isEnabled k [] = false
+isEnabled k (f ∷ fs) = eqb (f .number) k || isEnabled k fs
+
+-- those of the flows that pass the test
+unfoldable pub keep : (Flow → Bool) → List Flow → List Flow
+keep p [] = []
+keep p (f ∷ fs) = let rest = keep p fs in cond (p f) (f ∷ rest) rest
+
+-- the flows but for the one with number k
 unfoldable pub without : ℕ → List Flow → List Flow
-without k [] = []
-without k (f ∷ fs) = let rest = without k fs in cond (eqb (f .number) k) rest (f ∷ rest)
+without k fs = keep (λ f. not (eqb (f .number) k)) fs
 
 -- the flows enabled and not disabled since, in the order of enabling: 'closing one leaves the other open'
 unfoldable pub enabled : History → List Flow
@@ -97,11 +106,6 @@ unfoldable pub greatest : History → ℕ
 greatest empty = 0
 greatest (h ▸ enable f) = f .number
 greatest (h ▸ disable k) = greatest h
-
--- one of these flows has number k
-unfoldable pub isEnabled : ℕ → List Flow → Bool
-isEnabled k [] = false
-isEnabled k (f ∷ fs) = eqb (f .number) k || isEnabled k fs
 
 -- the event joins the history: none of 4, 4, 5, 6, 7 applies to an enable, and 8 does not to a disable
 unfoldable pub joins : ℕ → History → Event → Bool

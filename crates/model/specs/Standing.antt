@@ -11,14 +11,14 @@ use lib.Dec.{eqb}
 use borrow.Table.Steps.{cases}
 use borrow.Author.Tests.{eqb-true, eqb-false, eq-eqb}
 use Rattle.model.specs.declared.Flow.{Flow}
-use Rattle.model.specs.Model.{Event, enable, disable, History, empty, _▸_, _∈_, without, enabled, edges, edgesOf, Enabled, flow, isEnabled}
+use Rattle.model.specs.Model.{Event, enable, disable, History, empty, _▸_, _∈_, without, keep, enabled, edges, edgesOf, Enabled, flow, isEnabled}
 use Rattle.model.specs.Closure.{Within}
 
 -- WITHOUT A NUMBER
 
 -- a flow that is left is one of those that were, and its number is another
 without-is : (k : ℕ) (fs : List Flow) {f : Flow} → f ∈ without k fs → (f ∈ fs) × (f .number ≢ k)
-unfolding without
+unfolding without keep
 without-is k [] i = absurd (List·Memᴰ·not-nil i)
 without-is k (g ∷ fs) i =
     cases (eqb (g .number) k)
@@ -37,7 +37,7 @@ without-other k fs i = without-is k fs i .1
 
 -- a flow whose number is another is left
 pub without-keeps : (k : ℕ) (fs : List Flow) {f : Flow} → f ∈ fs → f .number ≢ k → f ∈ without k fs
-unfolding without
+unfolding without keep
 without-keeps k [] i n = i
 without-keeps k (g ∷ fs) i n =
     cases (eqb (g .number) k)

@@ -14,7 +14,7 @@ use Rattle.model.specs.Standing.{without-part}
 use Rattle.tagset.specs.Set.{has}
 use Rattle.state.specs.State.{Storage, State, setAt, flowsOf}
 use Rattle.state.specs.IsValid.{Usable, usable}
-use Rattle.tracker.specs.Outcome.{noHeader, startOrder, started, startOf, propagated, changed, enableOrder, enableOf, disableOrder, disableOf, ask, outcomeOf, orderOf}
+use Rattle.tracker.specs.Outcome.{noHeader, startOrder, started, startOf, propagated, changed, enabling, disabling, enableOrder, enableOf, disableOrder, disableOf, ask, outcomeOf, orderOf}
 use Rattle.tracker.specs.Refusals.{decided-done, call-accepted, call-refused, start-accepted}
 use Rattle.tracker.specs.Propagation.{propagated-has}
 use Rattle.tracker.specs.Stays.{changed-flows, start-usable, enable-usable, disable-usable, flows-within, settled}
@@ -38,6 +38,7 @@ enable-accepted s f = (λ a. fore (call-accepted s (ask (enable f)) .0 a), λ e.
     fore =
         simp (not-not-iff, not-le-iff, ne-iff)
         (λ (b, (v, (x, (y, (d, (g, (r, z))))))). record { before = usable s .0 (b, v); from-below = x; to-below = y; differ = d; above = g; room = r })
+
     back : Enables s f → NoneHolds (enableOrder s f)
     back e =
         let u = usable s .1 (e .before) in
@@ -50,6 +51,7 @@ disable-accepted s k = (λ a. fore (call-accepted s (ask (disable k)) .0 a), λ 
   where
     fore : NoneHolds (disableOrder s k) → Usable s × (isEnabled k (flowsOf s) ≡ true)
     fore = simp not-not-iff (λ (b, (v, (i, z))). (usable s .0 (b, v), i))
+
     back : Usable s × (isEnabled k (flowsOf s) ≡ true) → NoneHolds (disableOrder s k)
     back e = let u = usable s .1 (e .0) in simp not-not-iff (u .0, (u .1, (e .1, tt)))
 
@@ -61,14 +63,11 @@ unfolding startOf
 start-leaves n lent a = decided-done (firstOf (startOrder n lent) 0) (record { header = noHeader; storage = lent }) 0 (started n lent) a .0
 
 -- what an accepted enable or disable leaves
-pub enable-leaves : (s : State) (f : Flow) → outcomeOf s (ask (enable f)) .refusal ≡ 0
-    → outcomeOf s (ask (enable f)) .state
-    ≡ changed s (flowsOf s ++ (f ∷ [])) (f .number) (propagated (s .header .containers) (flowsOf s ++ (f ∷ [])) (s .storage .tags))
+pub enable-leaves : (s : State) (f : Flow) → outcomeOf s (ask (enable f)) .refusal ≡ 0 → outcomeOf s (ask (enable f)) .state ≡ enabling s f
 unfolding outcomeOf enableOf
 enable-leaves s f a = decided-done (firstOf (enableOrder s f) 0) s _ _ a .0
 
-pub disable-leaves : (s : State) (k : ℕ) → outcomeOf s (ask (disable k)) .refusal ≡ 0
-    → outcomeOf s (ask (disable k)) .state ≡ changed s (without k (flowsOf s)) (s .header .greatest) (s .storage .tags)
+pub disable-leaves : (s : State) (k : ℕ) → outcomeOf s (ask (disable k)) .refusal ≡ 0 → outcomeOf s (ask (disable k)) .state ≡ disabling s k
 unfolding outcomeOf disableOf
 disable-leaves s k a = decided-done (firstOf (disableOrder s k) 0) s _ _ a .0
 
@@ -119,6 +118,7 @@ changed-sentence s fs greatest tags u same b t l =
 
 -- and of every accepted event, enable or disable
 pub event-sentence : (s : State) (e : Event) → outcomeOf s (ask e) .refusal ≡ 0 → Sentence s (outcomeOf s (ask e) .state)
+unfolding enabling disabling
 event-sentence s (enable f) a =
     rw (enable-leaves s f a)
     (changed-sentence s (flowsOf s ++ (f ∷ [])) (f .number) (propagated (s .header .containers) (flowsOf s ++ (f ∷ [])) (s .storage .tags))

@@ -124,7 +124,7 @@ module _ (n : ℕ) (lent : Storage) (begun : startOf n lent .refusal ≡ 0) (cal
   -- where this one does not; and there is an execution whose configuration is the tracker's
   pub demand-3 :
       ((x : Execution history) → (configuration n x ≡ configurationOf tracker)
-        ↔ ((y : Execution history) (c t : ℕ) → configuration n y c t ≡ true → configuration n x c t ≡ true))
+      ↔ ((y : Execution history) (c t : ℕ) → configuration n y c t ≡ true → configuration n x c t ≡ true))
       × ((x : Execution history) × (configuration n x ≡ configurationOf tracker))
   demand-3 = exact n history (configurationOf tracker) inside (tracker-follows .sets)
     where

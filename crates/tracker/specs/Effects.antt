@@ -13,7 +13,7 @@ use Rattle.tagset.specs.Below.{count-none}
 use Rattle.state.specs.State.{Storage, State, badSize, setAt, flowsOf}
 use Rattle.state.specs.Layout.{sets-length, sets-beyond, front-length, front-beyond, flows-length, flows-beyond}
 use Rattle.state.specs.IsValid.{IsSized, sized, Usable}
-use Rattle.tracker.specs.Outcome.{decided, noHeader, startOrder, started, startOf, propagated, gainOf, changed, enableOrder, enableOf, disableOrder, disableOf, Call, ask, outcomeOf, after}
+use Rattle.tracker.specs.Outcome.{decided, noHeader, startOrder, started, startOf, propagated, gainOf, changed, enabling, disabling, enableOrder, enableOf, disableOrder, disableOf, Call, ask, outcomeOf, after}
 use Rattle.tracker.specs.Refusals.{decided-done, call-refused, start-refused, start-accepted}
 use Rattle.tracker.specs.Stays.{flows-count, without-length, propagated-length}
 use Rattle.tracker.specs.Accepted.{Enables, enable-accepted, disable-accepted, start-leaves, enable-leaves, disable-leaves}
@@ -107,6 +107,7 @@ changed-beyond s fs greatest tags u few same beyond =
 
 -- so does every call
 pub call-beyond : (s : State) (c : Call) → SameBeyond (s .header .containers) (outcomeOf s c .state .storage) (s .storage)
+unfolding enabling disabling
 call-beyond s c = go (outcomeOf s c .refusal) refl
   where
     accepted : (c : Call) → outcomeOf s c .refusal ≡ 0 → SameBeyond (s .header .containers) (outcomeOf s c .state .storage) (s .storage)
@@ -122,6 +123,7 @@ call-beyond s c = go (outcomeOf s c .refusal) refl
         rw (disable-leaves s k a)
         (changed-beyond s (without k (flowsOf s)) (s .header .greatest) (s .storage .tags) u
         (omega (arith, without-length k (flowsOf s), flows-count s u, u .valid .table-count)) refl refl)
+
     go : (r : ℕ) → outcomeOf s c .refusal ≡ r → SameBeyond (s .header .containers) (outcomeOf s c .state .storage) (s .storage)
     go zero a = accepted c a
     go (suc k) a = rw (call-refused s c k a .0) (beyond-refl (s .header .containers) (s .storage))
@@ -135,7 +137,7 @@ decided-keeps get (suc k) s gain s' e = refl
 -- what every changed state keeps, every event keeps: n, the policy sets and their counts
 event-keeps : {A : Type 0} (get : State → A) → ((s : State) (fs : List Flow) (greatest : ℕ) (tags : List ℕ) → get (changed s fs greatest tags) ≡ get s)
     → (s : State) (e : Event) → get (outcomeOf s (ask e) .state) ≡ get s
-unfolding outcomeOf enableOf disableOf
+unfolding outcomeOf enableOf disableOf enabling disabling
 event-keeps get p s (enable f) = decided-keeps get (firstOf (enableOrder s f) 0) s _ _ (p s _ _ _)
 event-keeps get p s (disable k) = decided-keeps get (firstOf (disableOrder s k) 0) s _ _ (p s _ _ _)
 
@@ -169,7 +171,7 @@ list-beyond n lent a cs =
 
 -- a disable leaves every word of the tag sets
 pub disable-tags : (s : State) (k : ℕ) → outcomeOf s (ask (disable k)) .state .storage .tags ≡ s .storage .tags
-unfolding outcomeOf disableOf changed
+unfolding outcomeOf disableOf disabling changed
 disable-tags s k = decided-keeps (λ s. s .storage .tags) (firstOf (disableOrder s k) 0) s _ _ refl
 
 -- THE GAIN
@@ -194,6 +196,6 @@ decided-gain (suc k) s gain s' e = sym (gain-same (s .header .containers) (s .st
 
 -- every call's gain is the count of the pairs that are stored after it and were not before
 pub gain-counted : (s : State) (c : Call) → outcomeOf s c .gain ≡ gainOf (s .header .containers) (s .storage .tags) (outcomeOf s c .state .storage .tags)
-unfolding outcomeOf enableOf disableOf changed
+unfolding outcomeOf enableOf disableOf disabling changed
 gain-counted s (ask (enable f)) = decided-gain (firstOf (enableOrder s f) 0) s _ _ refl
 gain-counted s (ask (disable k)) = decided-gain (firstOf (disableOrder s k) 0) s 0 _ (sym (gain-same (s .header .containers) (s .storage .tags)))

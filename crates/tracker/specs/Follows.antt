@@ -18,7 +18,7 @@ use Rattle.model.specs.Histories.{flows-empty, flows-next, MayEnable, enable-jo
 use Rattle.tagset.specs.Set.{has}
 use Rattle.state.specs.State.{Storage, State, badSize, setAt, flowsOf}
 use Rattle.state.specs.IsValid.{Usable}
-use Rattle.tracker.specs.Outcome.{started, startOf, propagated, changed, Call, ask, outcomeOf, eventsOf, after, configurationOf}
+use Rattle.tracker.specs.Outcome.{started, startOf, propagated, changed, enabling, disabling, Call, ask, outcomeOf, eventsOf, after, configurationOf}
 use Rattle.tracker.specs.Refusals.{call-refused, start-accepted}
 use Rattle.tracker.specs.Stays.{flows-count, changed-flows, started-has, start-usable, flows-within}
 use Rattle.tracker.specs.Accepted.{Enables, enable-accepted, disable-accepted, start-leaves, enable-leaves, disable-leaves, event-leaves-usable, event-sentence}
@@ -45,10 +45,12 @@ start-follows n lent b =
   where
     stored : (c t : ℕ) → c < n → has (setAt (started n lent .storage .tags) c) t ≡ eqb t c
     stored = started-has n lent b
+
     fore : (c t : ℕ) → configurationOf (started n lent) c t ≡ true → Flows n empty t c
     fore c t q =
         let w = configuration-has (started n lent) c t .0 q in
         flows-empty n t c .1 (eqb-true t c (sym (stored c t (w .0)) ∙ w .1), w .0)
+
     back : (c t : ℕ) → Flows n empty t c → configurationOf (started n lent) c t ≡ true
     back c t p = let w = flows-empty n t c .0 p in configuration-has (started n lent) c t .1 (w .1, stored c t (w .1) ∙ eq-eqb t c (w .0))
 
@@ -59,6 +61,7 @@ accepted-joins n h s (enable f) w =
   where
     count : s .header .enabled ≡ length (enabled h)
     count = sym (flows-count s (w .usable)) ∙ ap length (w .same-flows)
+
     fore : Enables s f → MayEnable n h f
     fore e =
         record {
@@ -68,6 +71,7 @@ accepted-joins n h s (enable f) w =
           above = omega (arith, e .above, w .same-greatest);
           room = omega (arith, e .room, count);
         }
+
     back : MayEnable n h f → Enables s f
     back m =
         record {
@@ -78,11 +82,10 @@ accepted-joins n h s (enable f) w =
           above = omega (arith, m .above, w .same-greatest);
           room = omega (arith, m .room, count);
         }
-accepted-joins n h s (disable k) w =
-    (
-      λ a. disable-joins n h k .1 (sym (ap (isEnabled k) (w .same-flows)) ∙ disable-accepted s k .0 a .1),
-      λ j. disable-accepted s k .1 (w .usable, ap (isEnabled k) (w .same-flows) ∙ disable-joins n h k .0 j),
-    )
+accepted-joins n h s (disable k) w = (
+  λ a. disable-joins n h k .1 (sym (ap (isEnabled k) (w .same-flows)) ∙ disable-accepted s k .0 a .1),
+  λ j. disable-accepted s k .1 (w .usable, ap (isEnabled k) (w .same-flows) ∙ disable-joins n h k .0 j),
+)
 
 -- ONE CALL
 
@@ -102,17 +105,22 @@ module _ (h : History) (s : State) where
     where
       s' : State
       s' = outcomeOf s (ask e) .state
+
       size : s' .header .containers ≡ n
       size = event-containers s e
+
       u : Usable s'
       u = event-leaves-usable s e a
+
       within : Within n (edgesOf (flowsOf s'))
       within = subst (λ (m : ℕ). Within m (edgesOf (flowsOf s'))) size (flows-within s' (u .valid))
+
       fore : (c t : ℕ) → configurationOf s' c t ≡ true → Flows n (h ▸ e) t c
       fore c t q =
           let v = configuration-has s' c t .0 q in
           let r = event-sentence s e a c t (omega (arith, v .0, size)) .0 (v .1) in
           flows-next n h e t c .1 (r .0, w .sets (r .0) t .0 (configuration-has s (r .0) t .1 (r .1, r .2)), rw flows at (r .3))
+
       back : (c t : ℕ) → Flows n (h ▸ e) t c → configurationOf s' c t ≡ true
       back c t p =
           let r = flows-next n h e t c .0 p in
@@ -123,7 +131,7 @@ module _ (h : History) (s : State) where
 
   -- an event that joins
   event-joins : (e : Event) → Follows n h s → joins n h e ≡ true → Follows n (h ▸ e) (outcomeOf s (ask e) .state)
-  unfolding changed enabled greatest
+  unfolding enabling disabling changed enabled greatest
   event-joins (enable f) w j =
       let a = accepted-joins n h s (enable f) w .1 j in
       let left = enable-leaves s f a in

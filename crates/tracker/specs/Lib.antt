@@ -1,4 +1,5 @@
 pub mod Outcome
+pub mod Samples
 pub mod Refusals
 pub mod Propagation
 pub mod Stays
@@ -6,4 +7,3 @@ pub mod Accepted
 pub mod Effects
 pub mod Follows
 pub mod Claims
-pub mod Samples

@@ -88,20 +88,27 @@ changed s fs greatest tags =
           record { tags = tags; policies = s .storage .policies; counts = s .storage .counts; flows = withFlows fs (s .storage .flows) };
     }
 
+-- the state after an accepted enable
+unfoldable pub enabling : State → Flow → State
+enabling s f = let fs = flowsOf s ++ (f ∷ []) in changed s fs (f .number) (propagated (s .header .containers) fs (s .storage .tags))
+
 unfoldable pub enableOf : State → Flow → Outcome
 enableOf s f =
-    let fs = flowsOf s ++ (f ∷ []) in
-    let tags = propagated (s .header .containers) fs (s .storage .tags) in
-    decided (firstOf (enableOrder s f) 0) s (gainOf (s .header .containers) (s .storage .tags) tags) (changed s fs (f .number) tags)
+    let s' = enabling s f in
+    decided (firstOf (enableOrder s f) 0) s (gainOf (s .header .containers) (s .storage .tags) (s' .storage .tags)) s'
 
 -- DISABLING
 
 unfoldable pub disableOrder : State → ℕ → List (Bool × ℕ)
 disableOrder s k = (badSize (s .header .containers) (s .storage), 9) ∷ (not (validOf s), 12) ∷ (not (isEnabled k (flowsOf s)), 8) ∷ []
 
--- 'a closing moves the later records down by one', 'it takes no tag away', 'gains 0'; claim `disable-settled`: the general sentence gives the same
+-- the state after an accepted disable: 'a closing moves the later records down by one', 'it takes no tag away'
+unfoldable pub disabling : State → ℕ → State
+disabling s k = changed s (without k (flowsOf s)) (s .header .greatest) (s .storage .tags)
+
+-- 'a closing gains 0'; claims `disable-has-nothing-to-propagate` and `gain-is-counted`: the general sentences say the same
 unfoldable pub disableOf : State → ℕ → Outcome
-disableOf s k = decided (firstOf (disableOrder s k) 0) s 0 (changed s (without k (flowsOf s)) (s .header .greatest) (s .storage .tags))
+disableOf s k = decided (firstOf (disableOrder s k) 0) s 0 (disabling s k)
 
 -- LISTS OF CALLS
 

@@ -4,12 +4,12 @@ use mathlib.Core.Bool.{Bool, true, false, cond}
 use mathlib.Core.List.{List, [], _∷_, _++_, map}
 use Prim.Native.Nat.{ℕ, zero, suc, _+_, _*_}
 use lib.ListN.{replicate}
-use Rattle.model.specs.Model.{Event, enable, disable, flow, edgesOf, without, isEnabled}
+use Rattle.model.specs.Model.{Event, enable, disable, flow, edgesOf, without, keep, isEnabled}
 use Rattle.model.specs.Reach.{tabulate, matrix, cell, isEdge, reachVia}
 use Rattle.tagset.specs.Set.{has, hasW, bitAt, emptySet, singleOf, unionOf, subsetOf, exceedsOf, countBelow, allBelow, anyBelow}
 use Rattle.state.specs.State.{Storage, State, badSize, setAt, withSets, flowsOf, withFlows}
 use Rattle.state.specs.Valid.{allOf, risingFrom, inLimits, countsInLimits, numbersRise, endsProper, tagsKnown, ownTags, setsCarried, unusedZero, validOf}
-use Rattle.tracker.specs.Outcome.{decided, startOrder, started, startOf, enableOrder, unionOver, propagated, gainOf, changed, enableOf, disableOrder, disableOf, Call, ask, outcomeOf, after}
+use Rattle.tracker.specs.Outcome.{decided, startOrder, started, startOf, enableOrder, unionOver, propagated, gainOf, changed, enabling, enableOf, disableOrder, disabling, disableOf, Call, ask, outcomeOf, after}
 
 -- a row: n, the events asked for, and what comes of them: each answer (a refusal and a gain), and each container's tags, rising
 pub record Sample : Type 0 where
@@ -115,5 +115,5 @@ samples =
     ∷ []
 
 pub samples-hold : map computed samples ≡ samples
-unfolding samples computed answers after those lent edgesOf without isEnabled tabulate matrix cell isEdge reachVia hasW bitAt emptySet singleOf unionOf subsetOf exceedsOf countBelow allBelow anyBelow badSize setAt withSets flowsOf withFlows allOf risingFrom inLimits countsInLimits numbersRise endsProper tagsKnown ownTags setsCarried unusedZero validOf decided startOrder started startOf enableOrder unionOver propagated gainOf changed enableOf disableOrder disableOf outcomeOf
+unfolding samples computed answers after those lent edgesOf without keep isEnabled tabulate matrix cell isEdge reachVia hasW bitAt emptySet singleOf unionOf subsetOf exceedsOf countBelow allBelow anyBelow badSize setAt withSets flowsOf withFlows allOf risingFrom inLimits countsInLimits numbersRise endsProper tagsKnown ownTags setsCarried unusedZero validOf decided startOrder started startOf enableOrder unionOver propagated gainOf changed enabling enableOf disableOrder disabling disableOf outcomeOf
 samples-hold = refl

@@ -13,7 +13,7 @@ use lib.Seq.{length-take-le}
 use borrow.Table.Steps.{cases}
 use borrow.Author.Tests.{eqb-true, eq-eqb}
 use Rattle.model.specs.declared.Flow.{Flow}
-use Rattle.model.specs.Model.{_∈_, edgesOf, without}
+use Rattle.model.specs.Model.{_∈_, edgesOf, without, keep}
 use Rattle.model.specs.Closure.{Within, reaches-sound, reaches-complete}
 use Rattle.model.specs.Standing.{without-part, edge-of, of-edge, within-flows}
 use Rattle.tagset.specs.Set.{has, emptySet, singleOf}
@@ -21,7 +21,7 @@ use Rattle.tagset.specs.Laws.{empty-has, single-has}
 use Rattle.state.specs.State.{Storage, State, badSize, setAt, flowsOf}
 use Rattle.state.specs.Layout.{set-written, sets-length, front-length, front-at, flows-length, flows-taken, flows-unused}
 use Rattle.state.specs.IsValid.{IsSized, sized, Rising, IsValid, Usable}
-use Rattle.tracker.specs.Outcome.{started, propagated, changed}
+use Rattle.tracker.specs.Outcome.{started, propagated, changed, enabling, disabling}
 use Rattle.tracker.specs.Propagation.{propagated-has}
 
 -- LISTS OF FLOWS
@@ -34,7 +34,7 @@ rising-from (f ∷ fs) l r = (omega (arith, r .0), r .1)
 
 -- numbers still rise where one is taken out
 rising-without : (k j : ℕ) (fs : List Flow) → Rising j fs → Rising j (without k fs)
-unfolding Rising without
+unfolding Rising without keep
 rising-without k j [] r = tt
 rising-without k j (f ∷ fs) r =
     let rest = rising-without k (f .number) fs (r .1) in
@@ -50,7 +50,7 @@ rising-append j m (g ∷ fs) f r p l h =
 
 -- taking a number out leaves no more flows
 pub without-length : (k : ℕ) (fs : List Flow) → length (without k fs) ≤ length fs
-unfolding without
+unfolding without keep
 without-length k [] = omega arith
 without-length k (f ∷ fs) =
     let h = without-length k fs in
@@ -170,7 +170,8 @@ changed-usable s fs greatest tags u few rising past ends long known own carried 
 pub enable-usable :
     (s : State) (f : Flow) → Usable s → f .from < s .header .containers → f .to < s .header .containers → f .from ≢ f .to
     → s .header .greatest < f .number → s .header .enabled < 512
-    → Usable (changed s (flowsOf s ++ (f ∷ [])) (f .number) (propagated (s .header .containers) (flowsOf s ++ (f ∷ [])) (s .storage .tags)))
+    → Usable (enabling s f)
+unfolding enabling
 enable-usable s f u from to differ above few =
     changed-usable s fs (f .number) (propagated n fs ws) u (omega (arith, length-append (flowsOf s) (f ∷ []), flows-count s u))
     (rising-append 0 (s .header .greatest) (flowsOf s) f (u .valid .rising) (u .valid .not-past) (omega arith) above) past ends
@@ -204,7 +205,8 @@ enable-usable s f u from to differ above few =
     within = within-flows n fs (λ g i. let e = ends g i in (e .0, e .1))
 
 -- a disable, whatever its number, leaves a usable state
-pub disable-usable : (s : State) (k : ℕ) → Usable s → Usable (changed s (without k (flowsOf s)) (s .header .greatest) (s .storage .tags))
+pub disable-usable : (s : State) (k : ℕ) → Usable s → Usable (disabling s k)
+unfolding disabling
 disable-usable s k u =
     changed-usable s fs (s .header .greatest) (s .storage .tags) u (omega (arith, without-length k (flowsOf s), flows-count s u, u .valid .table-count))
     (rising-without k 0 (flowsOf s) (u .valid .rising)) (λ f i. u .valid .not-past f (part f i)) (λ f i. u .valid .ends f (part f i))

@@ -1,0 +1,74 @@
+-- Example 1 of document 000 on the model: its events are accepted, its concrete execution leaves what table 1a says, and another order of the same
+-- executions leaves less. Containers: src 0, se 1, p 2, r 3, d 4. Assumes nothing.
+use mathlib.Core.Path.{_≡_, refl}
+use mathlib.Core.Bool.{Bool, true, false}
+use mathlib.Core.List.{List, [], _∷_, List·Memᴰ·head, List·Memᴰ·tail}
+use Prim.Native.Nat.{ℕ}
+use Rattle.model.specs.Model.{_∈_, flow, Event, enable, disable, History, empty, _▸_, isEnabled, keep, without, enabled, edges, Execution, begin, event, exec, initial, carry, configuration, greatest, joins, joined, acceptedFrom, accepted}
+use Rattle.model.specs.Reach.{tabulate, matrix}
+
+-- ω of the example
+unfoldable pub events : List Event
+events =
+    enable (flow 1 2 3)
+    ∷ enable (flow 2 0 1)
+    ∷ disable 2
+    ∷ enable (flow 3 1 2) ∷ disable 1 ∷ disable 3 ∷ enable (flow 4 3 4) ∷ disable 4 ∷ []
+
+unfoldable pub observed : History
+observed =
+    empty ▸ enable (flow 1 2 3) ▸ enable (flow 2 0 1) ▸ disable 2 ▸ enable (flow 3 1 2) ▸ disable 1 ▸ disable 3 ▸ enable (flow 4 3 4) ▸ disable 4
+
+-- every event joins
+pub all-join : accepted 5 events ≡ observed
+unfolding events observed isEnabled keep without enabled greatest joins joined acceptedFrom
+all-join = refl
+
+-- a flow is the first of those enabled, or the second; and its way is the only one
+abbrev first : {A : Type 0} {x : A} {xs : List A} → x ∈ x ∷ xs
+first = List·Memᴰ·head refl
+
+abbrev second : {A : Type 0} {x y : A} {xs : List A} → x ∈ y ∷ x ∷ xs
+second = List·Memᴰ·tail first
+
+-- x of the example: src to se, se to p, p to r, r to d
+unfoldable pub concrete : Execution observed
+unfolding observed keep without enabled
+concrete =
+    let x = exec (event (event begin (enable (flow 1 2 3))) (enable (flow 2 0 1))) (flow 2 0 1) second 0 1 first in
+    let y = exec (event (event x (disable 2)) (enable (flow 3 1 2))) (flow 3 1 2) second 1 2 first in
+    let z = event (event (exec y (flow 1 2 3) first 2 3 first) (disable 1)) (disable 3) in
+    event (exec (event z (enable (flow 4 3 4))) (flow 4 3 4) first 3 4 first) (disable 4)
+
+-- the same with p to r before se to p
+unfoldable pub reordered : Execution observed
+unfolding observed keep without enabled
+reordered =
+    let x = exec (event (event begin (enable (flow 1 2 3))) (enable (flow 2 0 1))) (flow 2 0 1) second 0 1 first in
+    let y = exec (event (event x (disable 2)) (enable (flow 3 1 2))) (flow 1 2 3) first 2 3 first in
+    let z = event (event (exec y (flow 3 1 2) second 1 2 first) (disable 1)) (disable 3) in
+    event (exec (event z (enable (flow 4 3 4))) (flow 4 3 4) first 3 4 first) (disable 4)
+
+abbrev I : Bool
+I = true
+
+abbrev O : Bool
+O = false
+
+-- the last row of table 1a, a row for each container
+pub concrete-leaves :
+    matrix 5 (configuration 5 concrete)
+    ≡ (I ∷ O ∷ O ∷ O ∷ O ∷ [])
+    ∷ (I ∷ I ∷ O ∷ O ∷ O ∷ [])
+    ∷ (I ∷ I ∷ I ∷ O ∷ O ∷ []) ∷ (I ∷ I ∷ I ∷ I ∷ O ∷ []) ∷ (I ∷ I ∷ I ∷ I ∷ I ∷ []) ∷ []
+unfolding concrete tabulate matrix configuration initial carry
+concrete-leaves = refl
+
+-- r and d then lack the tags of src and se
+pub reordered-leaves :
+    matrix 5 (configuration 5 reordered)
+    ≡ (I ∷ O ∷ O ∷ O ∷ O ∷ [])
+    ∷ (I ∷ I ∷ O ∷ O ∷ O ∷ [])
+    ∷ (I ∷ I ∷ I ∷ O ∷ O ∷ []) ∷ (O ∷ O ∷ I ∷ I ∷ O ∷ []) ∷ (O ∷ O ∷ I ∷ I ∷ I ∷ []) ∷ []
+unfolding reordered tabulate matrix configuration initial carry
+reordered-leaves = refl
