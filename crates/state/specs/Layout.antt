@@ -31,6 +31,16 @@ module _ (n : ℕ) (f : ℕ → TagSet) (ws : List ℕ) where
   words-length : length front ≡ 4 * n
   words-length = tabulate-length (4 * n) word
 
+  -- the words past the sets stay as they were
+  pub sets-beyond : drop (4 * n) (withSets n f ws) ≡ drop (4 * n) ws
+  unfolding withSets
+  sets-beyond = drop-at front (drop (4 * n) ws) (4 * n) words-length
+
+  -- the words stay as many
+  pub sets-length : 4 * n ≤ length ws → length (withSets n f ws) ≡ length ws
+  unfolding withSets
+  sets-length h = length-front ws front (4 * n) (words-length ∙ sym (length-take-le (4 * n) ws h))
+
   -- word j of set k is written at 4 * k + j
   word-written : (k : ℕ) → k < n → (i j : ℕ) → j < 4 → i ≡ 4 * k + j → getD (withSets n f ws) i 0 ≡ getD (f k .words) j 0
   unfolding withSets
@@ -46,16 +56,6 @@ module _ (n : ℕ) (f : ℕ → TagSet) (ws : List ℕ) where
       ap (λ (w : ℕ). bitAt w (t % 64))
       (each-word (λ q. wordAt (setAt (withSets n f ws) k .words) q ≡ wordAt (f k .words) q) (at (4 * k) 0 (omega arith) (omega arith))
       (at (4 * k + 1) 1 (omega arith) refl) (at (4 * k + 2) 2 (omega arith) refl) (at (4 * k + 3) 3 (omega arith) refl) (λ q. refl) (t / 64))
-
-  -- the words stay as many
-  pub sets-length : 4 * n ≤ length ws → length (withSets n f ws) ≡ length ws
-  unfolding withSets
-  sets-length h = length-front ws front (4 * n) (words-length ∙ sym (length-take-le (4 * n) ws h))
-
-  -- the words past the sets stay as they were
-  pub sets-beyond : drop (4 * n) (withSets n f ws) ≡ drop (4 * n) ws
-  unfolding withSets
-  sets-beyond = drop-at front (drop (4 * n) ws) (4 * n) words-length
 
 -- A front of one value
 

@@ -19,7 +19,7 @@ use Rattle.state.specs.IsValid.{IsSized, sized, IsValid, valid, Usable}
 use Rattle.tracker.specs.Outcome.{noHeader, startOrder, startOf, propagated, gainOf, Call, ask, orderOf, outcomeOf, eventsOf, after, configurationOf}
 use Rattle.tracker.specs.Refusals.{start-refusal, start-refused, call-refusal, call-refused, call-accepted}
 use Rattle.tracker.specs.Stays.{settled}
-use Rattle.tracker.specs.Accepted.{Sentence, start-makes-usable, event-leaves-usable, event-sentence}
+use Rattle.tracker.specs.Steps.{Sentence, start-makes-usable, event-leaves-usable, event-sentence}
 use Rattle.tracker.specs.Effects.{SameBeyond, start-beyond, call-beyond, list-beyond, disable-tags, gain-counted}
 use Rattle.tracker.specs.Follows.{Follows, configuration-has, accepted-joins, calls-follow, begun-follows}
 

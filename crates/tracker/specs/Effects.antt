@@ -16,7 +16,7 @@ use Rattle.state.specs.IsValid.{IsSized, sized, Usable}
 use Rattle.tracker.specs.Outcome.{decided, noHeader, startOrder, started, startOf, propagated, gainOf, changed, enabling, disabling, enableOrder, enableOf, disableOrder, disableOf, Call, ask, outcomeOf, after}
 use Rattle.tracker.specs.Refusals.{decided-done, call-refused, start-refused, start-accepted}
 use Rattle.tracker.specs.Stays.{flows-count, without-length, propagated-length}
-use Rattle.tracker.specs.Accepted.{Enables, enable-accepted, disable-accepted, start-leaves, enable-leaves, disable-leaves}
+use Rattle.tracker.specs.Steps.{Enables, enable-accepted, disable-accepted, start-leaves, enable-leaves, disable-leaves}
 
 -- two storages have the same lengths, and the same content past those that n containers use
 pub record SameBeyond (n : ℕ) (a b : Storage) : Type 0 where

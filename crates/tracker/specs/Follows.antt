@@ -21,7 +21,7 @@ use Rattle.state.specs.IsValid.{Usable}
 use Rattle.tracker.specs.Outcome.{started, startOf, propagated, changed, enabling, disabling, Call, ask, outcomeOf, eventsOf, after, configurationOf}
 use Rattle.tracker.specs.Refusals.{call-refused, start-accepted}
 use Rattle.tracker.specs.Stays.{flows-count, changed-flows, started-has, start-usable, flows-within}
-use Rattle.tracker.specs.Accepted.{Enables, enable-accepted, disable-accepted, start-leaves, enable-leaves, disable-leaves, event-leaves-usable, event-sentence}
+use Rattle.tracker.specs.Steps.{Enables, enable-accepted, disable-accepted, start-leaves, enable-leaves, disable-leaves, event-leaves-usable, event-sentence}
 use Rattle.tracker.specs.Effects.{event-containers}
 
 -- the state is what the history makes of n containers

@@ -1,9 +1,9 @@
 pub mod Outcome
-pub mod Samples
+pub mod Bench
 pub mod Refusals
 pub mod Propagation
 pub mod Stays
-pub mod Accepted
+pub mod Steps
 pub mod Effects
 pub mod Follows
 pub mod Claims

@@ -1,13 +1,46 @@
--- Example 1 of document 000 on the model: its events are accepted, its concrete execution leaves what table 1a says, and another order of the same
--- executions leaves less. Containers: src 0, se 1, p 2, r 3, d 4. Assumes nothing.
+-- The model computed: the traps of the bench (document 01) and Example 1 of document 000, whose events are accepted, whose concrete execution leaves
+-- what table 1a says, and in which another order of the same executions leaves less. Assumes nothing.
 use mathlib.Core.Path.{_≡_, refl}
 use mathlib.Core.Bool.{Bool, true, false}
 use mathlib.Core.List.{List, [], _∷_, List·Memᴰ·head, List·Memᴰ·tail}
 use Prim.Native.Nat.{ℕ}
-use Rattle.model.specs.Model.{_∈_, flow, Event, enable, disable, History, empty, _▸_, isEnabled, keep, without, enabled, edges, Execution, begin, event, exec, initial, carry, configuration, greatest, joins, joined, acceptedFrom, accepted}
-use Rattle.model.specs.Reach.{tabulate, matrix}
+use Rattle.model.specs.Model.{_∈_, flow, Event, enable, disable, History, empty, _▸_, isEnabled, keep, without, enabled, edgesOf, Execution, begin, event, exec, initial, carry, configuration, greatest, joins, joined, acceptedFrom, accepted}
+use Rattle.model.specs.Reach.{tabulate, matrix, cell, isEdge, reachVia, reachable}
 
--- ω of the example
+abbrev I : Bool
+I = true
+
+abbrev O : Bool
+O = false
+
+-- TRAPS OF THE BENCH
+
+-- of two alike flows a disable ends the one that it names
+pub alike-flow-stays : enabled (empty ▸ enable (flow 1 0 1) ▸ enable (flow 2 0 1) ▸ disable 1) ≡ flow 2 0 1 ∷ []
+unfolding isEnabled keep without enabled
+alike-flow-stays = refl
+
+-- a chain is followed to its end, and not against its direction
+pub chain-is-followed :
+    reachable 3 (edgesOf (flow 1 0 1 ∷ flow 2 1 2 ∷ [])) ≡ (I ∷ I ∷ I ∷ []) ∷ (O ∷ I ∷ I ∷ []) ∷ (O ∷ O ∷ I ∷ []) ∷ []
+unfolding edgesOf tabulate matrix cell isEdge reachVia
+chain-is-followed = refl
+
+-- what does not join: number 0, a container of n or more at either end, a flow to itself, a number that is not above the greatest, a disable of what
+-- is not enabled; and a refused enable uses up no number
+pub refused-events :
+    accepted 3
+    (enable (flow 0 0 1)
+    ∷ enable (flow 5 3 0)
+    ∷ enable (flow 5 0 3)
+    ∷ enable (flow 5 1 1) ∷ enable (flow 5 0 1) ∷ enable (flow 5 1 2) ∷ disable 4 ∷ enable (flow 6 1 2) ∷ disable 5 ∷ disable 5 ∷ [])
+    ≡ empty ▸ enable (flow 5 0 1) ▸ enable (flow 6 1 2) ▸ disable 5
+unfolding isEnabled keep without enabled greatest joins joined acceptedFrom
+refused-events = refl
+
+-- EXAMPLE 1
+
+-- ω of the example; src is 0, se 1, p 2, r 3, d 4
 unfoldable pub events : List Event
 events =
     enable (flow 1 2 3)
@@ -19,10 +52,14 @@ unfoldable pub observed : History
 observed =
     empty ▸ enable (flow 1 2 3) ▸ enable (flow 2 0 1) ▸ disable 2 ▸ enable (flow 3 1 2) ▸ disable 1 ▸ disable 3 ▸ enable (flow 4 3 4) ▸ disable 4
 
--- every event joins
+-- every event joins, and no flow is left enabled
 pub all-join : accepted 5 events ≡ observed
 unfolding events observed isEnabled keep without enabled greatest joins joined acceptedFrom
 all-join = refl
+
+pub none-left : enabled observed ≡ []
+unfolding observed isEnabled keep without enabled
+none-left = refl
 
 -- a flow is the first of those enabled, or the second; and its way is the only one
 abbrev first : {A : Type 0} {x : A} {xs : List A} → x ∈ x ∷ xs
@@ -48,12 +85,6 @@ reordered =
     let y = exec (event (event x (disable 2)) (enable (flow 3 1 2))) (flow 1 2 3) first 2 3 first in
     let z = event (event (exec y (flow 3 1 2) second 1 2 first) (disable 1)) (disable 3) in
     event (exec (event z (enable (flow 4 3 4))) (flow 4 3 4) first 3 4 first) (disable 4)
-
-abbrev I : Bool
-I = true
-
-abbrev O : Bool
-O = false
 
 -- the last row of table 1a, a row for each container
 pub concrete-leaves :

@@ -1,4 +1,4 @@
--- The samples of document 01 on sets and gains, computed on the outcome definitions. Assumes nothing.
+-- The samples of document 01 on sets and gains, and its traps of the bench, computed on the outcome definitions. Assumes nothing.
 use mathlib.Core.Path.{_≡_, refl}
 use mathlib.Core.Bool.{Bool, true, false, cond}
 use mathlib.Core.List.{List, [], _∷_, _++_, map}
