@@ -3,7 +3,6 @@
 use mathlib.Core.Path.{_≡_, refl}
 use mathlib.Core.Bool.{Bool, true, false}
 use mathlib.Core.List.{List, [], _∷_, List·Memᴰ·head, List·Memᴰ·tail}
-use Prim.Native.Nat.{ℕ}
 use Rattle.model.specs.Model.{_∈_, flow, Event, enable, disable, History, empty, _▸_, isEnabled, keep, without, enabled, edgesOf, Execution, begin, event, exec, initial, carry, configuration, greatest, joins, joined, acceptedFrom, accepted}
 use Rattle.model.specs.Reach.{tabulate, matrix, cell, isEdge, reachVia, reachable}
 

@@ -1,15 +1,11 @@
 -- Flows and the accepted history in the papers' words. Assumes nothing.
-use mathlib.Core.Path.{_≡_, refl, sym, ap, _∙_, subst}
-use mathlib.Core.Bool.{Bool, true, false, _&&_, not, cond, false≢true}
+use mathlib.Core.Path.{_≡_, refl, sym, ap, subst}
+use mathlib.Core.Bool.{Bool, true, false, cond, false≢true}
 use mathlib.Core.Logic.{_⊎_, inl, inr, _↔_, Iff·rfl, _≢_}
-use mathlib.Core.List.{List, [], _∷_, _++_}
-use mathlib.Mathlib.Logic.Relation.{ReflTransGenᴰ, ReflTransGenᴰ·refl, ReflTransGenᴰ·tail}
-use Prim.Native.Nat.{ℕ, zero, suc, _≤_, _<_}
+use mathlib.Core.List.{List, [], _∷_}
+use Prim.Native.Nat.{ℕ, _≤_, _<_}
 use native.Mathlib.Omega.{arith}
-use lib.Dec.{ltb, eqb}
 use lib.ListN.{length}
-use borrow.Author.Tests.{ltb-true, eqb-false, not-true}
-use borrow.Table.Steps.{cases}
 use Rattle.truth.specs.Truth.{and-iff, not-iff, lt-iff, ne-iff}
 use Rattle.model.specs.declared.Flow.{Flow}
 use Rattle.model.specs.Model.{Event, enable, disable, History, empty, _▸_, enabled, Enabled*, Flows, own, next}

@@ -1,9 +1,9 @@
 -- Containers, flows, histories and executions: document 000, sections 3.1 and 3.2; document 01, 'What events do' and 'Lists of calls'.
 -- A container (document 01: holder) is a number below n, and so is the tag that it has at first. Assumes nothing.
-use mathlib.Core.Bool.{Bool, true, false, _&&_, _||_, not, cond}
+use mathlib.Core.Bool.{Bool, false, _&&_, _||_, not, cond}
 use mathlib.Core.List.{List, [], _∷_, _++_, List·Memᴰ}
 use mathlib.Mathlib.Logic.Relation.{ReflTransGenᴰ}
-use Prim.Native.Nat.{ℕ, zero, suc, _<_}
+use Prim.Native.Nat.{ℕ, _<_}
 use lib.Dec.{ltb, eqb}
 use lib.ListN.{length}
 use Rattle.model.specs.declared.Flow.{Flow}

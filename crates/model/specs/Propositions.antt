@@ -1,19 +1,18 @@
 -- Propositions 1 and 2 of document 000, and the one execution that brings all that Flows relates. An execution of a flow goes along one enabled
 -- way, and what Flows relates is closed under these; two executions of a history merge into one with the pairs of both. Assumes nothing.
-use mathlib.Core.Path.{_≡_, refl, sym, ap, _∙_, fun-ext, subst}
-use mathlib.Core.Bool.{Bool, true, false, _&&_, _||_, false≢true}
+use mathlib.Core.Path.{_≡_, refl, sym, _∙_, fun-ext, subst}
+use mathlib.Core.Bool.{Bool, true, false, _&&_, false≢true}
 use mathlib.Core.Logic.{_⊎_, inl, inr, _↔_, ⊎-elim}
-use mathlib.Core.List.{List, [], _∷_, List·Memᴰ·not-nil}
-use mathlib.Mathlib.Logic.Relation.{ReflTransGenᴰ, ReflTransGenᴰ·refl, ReflTransGenᴰ·tail}
-use Prim.Native.Nat.{ℕ, zero, suc, _≤_, _<_}
+use mathlib.Core.List.{List·Memᴰ·not-nil}
+use mathlib.Mathlib.Logic.Relation.{ReflTransGenᴰ·refl, ReflTransGenᴰ·tail}
+use Prim.Native.Nat.{ℕ, zero, suc, _<_}
 use native.Mathlib.Nat.{not-suc-le-zero}
 use native.Mathlib.Decide.{decLt}
 use native.Mathlib.Omega.{arith}
 use lib.Dec.{ltb, eqb}
 use borrow.Author.Tests.{ltb-true, lt-ltb, eqb-true, eq-eqb}
 use Rattle.truth.specs.Truth.{iff, and-both, both-and, left-or, right-or, or-and-iff}
-use Rattle.model.specs.declared.Flow.{Flow}
-use Rattle.model.specs.Model.{Event, History, empty, _▸_, _∈_, edges, edgesOf, enabled, Enabled, Enabled*, Flows, own, next}
+use Rattle.model.specs.Model.{Event, History, empty, _▸_, edgesOf, enabled, Enabled, Enabled*, Flows, own, next}
 use Rattle.model.specs.Standing.{edge-of, of-edge}
 use Rattle.model.specs.Model.{Configuration, initial, carry, Execution, begin, event, exec, configuration}
 

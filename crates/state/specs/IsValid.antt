@@ -1,15 +1,13 @@
 -- What `badSize` and `validOf` test, in the paper's words: each test passes exactly where its sentence holds, and `simp` puts them together.
 -- Assumes nothing.
-use mathlib.Core.Path.{_≡_, refl, sym, ap, ap₂, _∙_}
-use mathlib.Core.Bool.{Bool, true, false, _&&_, _||_, not, false≢true}
+use mathlib.Core.Path.{_≡_, refl, sym, ap, _∙_}
+use mathlib.Core.Bool.{Bool, true, false, false≢true}
 use mathlib.Core.List.{List, [], _∷_, List·Memᴰ·head, List·Memᴰ·tail}
 use mathlib.Core.Logic.{_↔_, _≢_}
 use Prim.Native.Nat.{ℕ, zero, suc, _+_, _-_, _*_, _/_, _%_, _≤_, _<_}
 use native.Mathlib.Omega.{arith}
-use lib.Dec.{leb, ltb, eqb}
 use lib.ListN.{length, getD, take, drop}
 use lib.Seq.{getD-take, getD-drop}
-use borrow.Author.Tests.{eqb-true, eqb-false, eq-eqb, ne-eqb, ltb-false, le-ltb, leb-true, le-leb, not-true}
 use Rattle.truth.specs.Truth.{and-both, and-iff, neither-iff, not-iff, le-iff, lt-iff, not-lt-iff, eq-iff, ne-iff}
 use Rattle.model.specs.declared.Flow.{Flow}
 use Rattle.model.specs.Model.{_∈_, edgesOf}

@@ -1,14 +1,14 @@
 -- A valid state (document 01, 'Storage': a sound book), one definition for each clause of the paper's sentence. Storage of refusal 9's
 -- lengths is taken for granted here: where it is shorter, 9 comes first. Assumes nothing.
-use mathlib.Core.Bool.{Bool, true, false, _&&_, not}
+use mathlib.Core.Bool.{Bool, true, _&&_, not}
 use mathlib.Core.List.{List, [], _∷_}
-use Prim.Native.Nat.{ℕ, zero, suc, _+_, _*_, _/_, _%_}
+use Prim.Native.Nat.{ℕ, _*_, _/_, _%_}
 use lib.Dec.{leb, ltb, eqb}
 use lib.ListN.{getD, take, drop}
 use Rattle.model.specs.declared.Flow.{Flow}
 use Rattle.model.specs.Model.{edgesOf}
 use Rattle.tagset.specs.Set.{has, implies, allBelow, subsetOf, exceedsOf}
-use Rattle.state.specs.State.{Storage, State, setAt, flowsOf}
+use Rattle.state.specs.State.{State, setAt, flowsOf}
 
 -- every element passes the test
 unfoldable pub allOf : {A : Type 0} → (A → Bool) → List A → Bool

@@ -1,7 +1,7 @@
 -- The samples of document 01 on sets and gains, and its traps of the bench, computed on the outcome definitions. Assumes nothing.
 use mathlib.Core.Path.{_≡_, refl}
-use mathlib.Core.Bool.{Bool, true, false, cond}
-use mathlib.Core.List.{List, [], _∷_, _++_, map}
+use mathlib.Core.Bool.{Bool, cond}
+use mathlib.Core.List.{List, [], _∷_, map}
 use Prim.Native.Nat.{ℕ, zero, suc, _+_, _*_}
 use lib.ListN.{replicate}
 use Rattle.model.specs.Model.{Event, enable, disable, flow, edgesOf, without, keep, isEnabled}

@@ -9,7 +9,7 @@ use native.Mathlib.Omega.{arith}
 use Rattle.truth.specs.Truth.{iff}
 use Rattle.refusal.specs.Order.{NoneHolds, IsFirst}
 use Rattle.model.specs.declared.Flow.{Flow}
-use Rattle.model.specs.Model.{_∈_, flow, Event, enable, disable, History, empty, enabled, Enabled, Flows, Execution, configuration, without, joins, accepted}
+use Rattle.model.specs.Model.{_∈_, flow, Event, disable, History, empty, enabled, Enabled, Flows, Execution, configuration, without, joins, accepted}
 use Rattle.model.specs.Standing.{Standing, standing, without-part, enabled-flow}
 use Rattle.model.specs.Propositions.{exact, proposition-1, proposition-2}
 use Rattle.tagset.specs.Set.{has}

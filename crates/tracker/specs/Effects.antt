@@ -2,21 +2,21 @@
 use mathlib.Core.Path.{_≡_, refl, sym, ap, _∙_, subst}
 use mathlib.Core.Bool.{Bool, true, false, _&&_, not}
 use mathlib.Core.List.{List, [], _∷_, _++_}
-use Prim.Native.Nat.{ℕ, zero, suc, _+_, _*_, _≤_, _<_}
+use Prim.Native.Nat.{ℕ, zero, suc, _*_, _≤_}
 use native.Mathlib.Omega.{arith}
 use lib.ListN.{length, drop, length-append}
 use Rattle.refusal.specs.Order.{firstOf}
 use Rattle.model.specs.declared.Flow.{Flow}
 use Rattle.model.specs.Model.{Event, enable, disable, without}
-use Rattle.tagset.specs.Set.{has, countBelow}
+use Rattle.tagset.specs.Set.{has}
 use Rattle.tagset.specs.Below.{count-none}
-use Rattle.state.specs.State.{Storage, State, badSize, setAt, flowsOf}
+use Rattle.state.specs.State.{Storage, State, setAt, flowsOf}
 use Rattle.state.specs.Layout.{sets-length, sets-beyond, front-length, front-beyond, flows-length, flows-beyond}
 use Rattle.state.specs.IsValid.{IsSized, sized, Usable}
-use Rattle.tracker.specs.Outcome.{decided, noHeader, startOrder, started, startOf, propagated, gainOf, changed, enabling, disabling, enableOrder, enableOf, disableOrder, disableOf, Call, ask, outcomeOf, after}
-use Rattle.tracker.specs.Refusals.{decided-done, call-refused, start-refused, start-accepted}
+use Rattle.tracker.specs.Outcome.{decided, started, startOf, propagated, gainOf, changed, enabling, disabling, enableOrder, enableOf, disableOrder, disableOf, Call, ask, outcomeOf, after}
+use Rattle.tracker.specs.Refusals.{call-refused, start-refused, start-accepted}
 use Rattle.tracker.specs.Stays.{flows-count, without-length, propagated-length}
-use Rattle.tracker.specs.Steps.{Enables, enable-accepted, disable-accepted, start-leaves, enable-leaves, disable-leaves}
+use Rattle.tracker.specs.Steps.{enable-accepted, disable-accepted, start-leaves, enable-leaves, disable-leaves}
 
 -- two storages have the same lengths, and the same content past those that n containers use
 pub record SameBeyond (n : ℕ) (a b : Storage) : Type 0 where

@@ -1,5 +1,5 @@
 -- The sets after an event in the paper's words: a container has a tag exactly if a container had it that this one is reached from. Assumes nothing.
-use mathlib.Core.Path.{_≡_, refl, sym, ap, ap₂, _∙_}
+use mathlib.Core.Path.{_≡_, ap, _∙_}
 use mathlib.Core.Bool.{Bool, true, false, _&&_, _||_, cond}
 use mathlib.Core.Logic.{_↔_}
 use mathlib.Core.List.{List}
@@ -9,7 +9,7 @@ use Rattle.model.specs.declared.Flow.{Flow}
 use Rattle.model.specs.Model.{edgesOf}
 use Rattle.model.specs.Reach.{reaches}
 use Rattle.tagset.specs.declared.TagSet.{TagSet}
-use Rattle.tagset.specs.Set.{has, emptySet, unionOf, anyBelow}
+use Rattle.tagset.specs.Set.{has, unionOf, anyBelow}
 use Rattle.tagset.specs.Below.{any-find, any-make}
 use Rattle.tagset.specs.Laws.{union-has, empty-has}
 use Rattle.state.specs.State.{setAt}

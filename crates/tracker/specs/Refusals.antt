@@ -10,10 +10,9 @@ use borrow.Table.Steps.{cases}
 use borrow.Author.Tests.{eqb-false, not-true}
 use Rattle.truth.specs.Truth.{and-both}
 use Rattle.refusal.specs.Order.{firstOf, NoneHolds, IsFirst, first-is, first-none, first-cases}
-use Rattle.model.specs.declared.Flow.{Flow}
 use Rattle.model.specs.Model.{enable, disable}
 use Rattle.state.specs.State.{Storage, State, badSize}
-use Rattle.tracker.specs.Outcome.{Outcome, decided, noHeader, startOrder, started, startOf, enableOrder, enableOf, disableOrder, disableOf, Call, ask, outcomeOf, orderOf}
+use Rattle.tracker.specs.Outcome.{decided, noHeader, startOrder, started, startOf, enableOrder, enableOf, disableOrder, disableOf, Call, ask, outcomeOf, orderOf}
 
 -- a number is answered exactly if it stands beside the first condition that holds
 pub first-number : (cs : List (Bool × ℕ)) (k : ℕ) → (firstOf cs 0 ≡ suc k) ↔ IsFirst cs (suc k)

@@ -1,10 +1,10 @@
 -- Accepted calls: which they are, what they leave, and the paper's sentence on the sets after them. Assumes nothing.
-use mathlib.Core.Path.{_≡_, refl, sym, ap, _∙_, subst}
-use mathlib.Core.Bool.{true, false}
+use mathlib.Core.Path.{_≡_}
+use mathlib.Core.Bool.{true}
 use mathlib.Core.List.{List, [], _∷_, _++_}
 use mathlib.Core.Logic.{_↔_, _≢_, Iff·rfl, Iff·symm, Iff·trans}
 use mathlib.Mathlib.Logic.Relation.{ReflTransGenᴰ}
-use Prim.Native.Nat.{ℕ, zero, suc, _<_}
+use Prim.Native.Nat.{ℕ, _<_}
 use Rattle.truth.specs.Truth.{not-not-iff, not-le-iff, ne-iff}
 use Rattle.refusal.specs.Order.{firstOf, NoneHolds}
 use Rattle.model.specs.declared.Flow.{Flow}
@@ -15,7 +15,7 @@ use Rattle.tagset.specs.Set.{has}
 use Rattle.state.specs.State.{Storage, State, setAt, flowsOf}
 use Rattle.state.specs.IsValid.{Usable, usable}
 use Rattle.tracker.specs.Outcome.{noHeader, startOrder, started, startOf, propagated, changed, enabling, disabling, enableOrder, enableOf, disableOrder, disableOf, ask, outcomeOf, orderOf}
-use Rattle.tracker.specs.Refusals.{decided-done, call-accepted, call-refused, start-accepted}
+use Rattle.tracker.specs.Refusals.{decided-done, call-accepted, start-accepted}
 use Rattle.tracker.specs.Propagation.{propagated-has}
 use Rattle.tracker.specs.Stays.{changed-flows, start-usable, enable-usable, disable-usable, flows-within, settled}
 
