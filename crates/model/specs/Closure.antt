@@ -155,3 +155,7 @@ module _ (n : ℕ) (es : List (ℕ × ℕ)) where
 pub reaches-enabled :
     (n : ℕ) (h : History) → Within n (edgesOf (enabled h)) → (a b : ℕ) → a < n → (reaches n (edgesOf (enabled h)) a b ≡ true) ↔ Enabled* h a b
 reaches-enabled n h w a b l = (reaches-sound n (edgesOf (enabled h)) a b, reaches-complete n (edgesOf (enabled h)) w l)
+
+-- what is reached from a container below n is below n, where the ways have both their ends below n
+pub reached-inside : (n : ℕ) (es : List (ℕ × ℕ)) → Within n es → {a b : ℕ} → a < n → ReflTransGenᴰ (λ x y. (x, y) ∈ es) a b → b < n
+reached-inside n es w {a} {b} l p = reaches-inside n es a b (reaches-complete n es w l p) .1

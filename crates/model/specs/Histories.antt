@@ -1,14 +1,16 @@
 -- Flows and the accepted history in the papers' words. Assumes nothing.
 use mathlib.Core.Path.{_≡_, refl, sym, ap, subst}
 use mathlib.Core.Bool.{Bool, true, false, cond, false≢true}
-use mathlib.Core.Logic.{_⊎_, inl, inr, _↔_, Iff·rfl, _≢_}
-use mathlib.Core.List.{List, [], _∷_}
+use mathlib.Core.Logic.{_⊎_, inl, inr, _↔_, ⊎-elim, Iff·rfl, _≢_}
+use mathlib.Core.List.{List, [], _∷_, _++_, List·Memᴰ·not-nil, List·Memᴰ·append-cases, List·Memᴰ·eq-of-singleton}
 use Prim.Native.Nat.{ℕ, _≤_, _<_}
 use native.Mathlib.Omega.{arith}
 use lib.ListN.{length}
+use Rattle.model.specs.Closure.{Within, reached-inside}
+use Rattle.model.specs.Standing.{without-part, edge-of, of-edge, edge-ends}
 use Rattle.truth.specs.Truth.{and-iff, not-iff, lt-iff, ne-iff}
 use Rattle.model.specs.declared.Flow.{Flow}
-use Rattle.model.specs.Model.{Event, enable, disable, History, empty, _▸_, enabled, Enabled*, Flows, own, next}
+use Rattle.model.specs.Model.{_∈_, Event, enable, disable, History, empty, _▸_, without, enabled, edges, edgesOf, Enabled*, Flows, own, next}
 use Rattle.model.specs.Model.{greatest, isEnabled, joins, joined, acceptedFrom, accepted}
 
 -- FLOWS: 'for the empty history it is the start', Enabled* for one event, and Flows · Enabled* for one more
@@ -111,3 +113,41 @@ numbers-rise (more {h} a (disable k) q) f o = go (numbers-rise a f) (occurs-case
         enables (enable g) = true
         enables (disable j) = false
     go r (inr o) = r o
+
+-- ENDS BELOW n
+
+-- at every place of the history the enabled ways have both their ends below n
+unfoldable pub Inside : ℕ → History → Type 0
+Inside n empty = Unit {0}
+Inside n (h ▸ e) = Inside n h × Within n (edgesOf (enabled (h ▸ e)))
+
+-- so they have at its end
+inside-last : (n : ℕ) (h : History) → Inside n h → Within n (edgesOf (enabled h))
+unfolding Inside enabled edgesOf
+inside-last n empty i = λ a b m. absurd (List·Memᴰ·not-nil m)
+inside-last n (h ▸ e) i = i .1
+
+-- and Flows relates to containers below n alone
+pub flows-inside : {n : ℕ} {h : History} {t c : ℕ} → Inside n h → Flows n h t c → c < n
+unfolding Inside
+flows-inside i (own l) = l
+flows-inside {n} i (next {h} e p q) = reached-inside n (edgesOf (enabled (h ▸ e))) (i .1) (flows-inside (i .0) p) q
+
+-- an accepted history is one of these
+pub accepted-inside : {n : ℕ} {h : History} → Accepted n h → Inside n h
+unfolding Inside enabled
+accepted-inside none = tt
+accepted-inside {n} (more {h} a (enable f) q) = let i = accepted-inside a in (i, within i (enable-joins n h f .0 q))
+  where
+    within : Inside n h → MayEnable n h f → Within n (edgesOf (enabled h ++ (f ∷ [])))
+    within i m x y j = pick (edge-of (enabled h ++ (f ∷ [])) j)
+      where
+        pick : (g : Flow) × (g ∈ enabled h ++ (f ∷ [])) × ((x, y) ∈ edges g) → (x < n) × (y < n)
+        pick (g, u, v) =
+            ⊎-elim (λ k. inside-last n h i x y (of-edge (enabled h) k v)) (λ k. new (List·Memᴰ·eq-of-singleton k)) (List·Memᴰ·append-cases (enabled h) u)
+          where
+            new : g ≡ f → (x < n) × (y < n)
+            new e = let r = edge-ends f (subst (λ (z : Flow). (x, y) ∈ edges z) e v) in (omega (arith, r .0, m .from-below), omega (arith, r .1, m .to-below))
+accepted-inside {n} (more {h} a (disable k) q) =
+    let i = accepted-inside a in
+    (i, λ x y j. let w = edge-of (without k (enabled h)) j in inside-last n h i x y (of-edge (enabled h) (without-part k (enabled h) (w .1)) (w .2)))

@@ -10,9 +10,13 @@ use native.Mathlib.Nat.{not-suc-le-zero}
 use native.Mathlib.Decide.{decLt}
 use native.Mathlib.Omega.{arith}
 use lib.Dec.{ltb, eqb}
+use borrow.Table.Steps.{cases}
 use borrow.Author.Tests.{ltb-true, lt-ltb, eqb-true, eq-eqb}
 use Rattle.truth.specs.Truth.{iff, and-both, both-and, left-or, right-or, or-and-iff}
-use Rattle.model.specs.Model.{Event, History, empty, _▸_, edgesOf, enabled, Enabled, Enabled*, Flows, own, next}
+use Rattle.model.specs.Model.{Event, History, empty, _▸_, edgesOf, edgesOf, enabled, Enabled, Enabled*, Flows, own, next}
+use Rattle.model.specs.Reach.{reaches}
+use Rattle.model.specs.Closure.{Within, reaches-sound, reaches-complete}
+use Rattle.model.specs.Histories.{Inside, flows-next, flows-inside}
 use Rattle.model.specs.Standing.{edge-of, of-edge}
 use Rattle.model.specs.Model.{Configuration, initial, carry, Execution, begin, event, exec, configuration}
 
@@ -30,22 +34,21 @@ carry-is : (a b : ℕ) (θ : Configuration) (c t : ℕ) → carry a b θ c t ≡
 unfolding carry
 carry-is a b θ c t q = ⊎-elim (λ p. inl p) (λ p. inr (eqb-true c b (p .0), p .1)) (or-and-iff (θ c t) (eqb c b) (θ a t) .0 q)
 
--- what Flows relates to a container, it relates to those that an enabled flow leads to
-flows-along : {n : ℕ} {h : History} {t a b : ℕ} → Flows n h t a → Enabled h a b → Flows n h t b
+-- what Flows relates to a container, it relates to one that an enabled flow leads to
+flows-along : {n : ℕ} {h : History} {t a b c : ℕ} → Flows n h t a → Enabled h a b → c ≡ b → Flows n h t c
 unfolding enabled edgesOf
-flows-along (own l) i = absurd (List·Memᴰ·not-nil i)
-flows-along (next e p q) i = next e p (ReflTransGenᴰ·tail q i)
+flows-along (own l) i e = absurd (List·Memᴰ·not-nil i)
+flows-along {c = c} (next e p q) i r = next {c = c} e p (rw r (ReflTransGenᴰ·tail q i))
 
 -- soundness: where an execution has put a tag, Flows relates the two
 pub proposition-1 : (n : ℕ) {h : History} (x : Execution h) (c t : ℕ) → configuration n x c t ≡ true → Flows n h t c
 unfolding configuration
 proposition-1 n begin c t q = initial-is n c t q
 proposition-1 n (event x e) c t q = next e (proposition-1 n x c t q) ReflTransGenᴰ·refl
-proposition-1 n (exec {h} x f i a b j) c t q = go (proposition-1 n x) (carry-is a b (configuration n x) c t q)
-  where
-    go : ((c t : ℕ) → configuration n x c t ≡ true → Flows n h t c) → (configuration n x c t ≡ true) ⊎ ((c ≡ b) × (configuration n x a t ≡ true)) → Flows n h t c
-    go r (inl p) = r c t p
-    go r (inr p) = subst (λ (y : ℕ). Flows n h t y) (sym (p .0)) (flows-along (r a t (p .1)) (of-edge (enabled h) i j))
+proposition-1 n (exec x f i a b j) c t q =
+    ⊎-elim (λ p. proposition-1 n x c t p)
+    (λ p. flows-along (proposition-1 n x a t (p .1)) (of-edge (enabled _) i j) (p .0))
+    (carry-is a b (configuration n x) c t q)
 
 -- PROPOSITION 2
 
@@ -58,21 +61,29 @@ carry-brings : (a b : ℕ) (θ : Configuration) (t : ℕ) → θ a t ≡ true �
 unfolding carry
 carry-brings a b θ t q = right-or (θ b t) (both-and (eq-eqb b b refl) q)
 
--- executions of flows along a way take a tag from its beginning to its end
-along : (n : ℕ) {h : History} {a c : ℕ} → Enabled* h a c → (x : Execution h) (t : ℕ) → configuration n x a t ≡ true
-    → (y : Execution h) × (configuration n y c t ≡ true)
+-- executions of flows along a way take all tags from its beginning to its end
+along : (n : ℕ) {h : History} {a c : ℕ} → Enabled* h a c → (x : Execution h)
+    → (y : Execution h) × ((t : ℕ) → configuration n x a t ≡ true → configuration n y c t ≡ true)
 unfolding configuration
-along n ReflTransGenᴰ·refl x t q = (x, q)
-along n {h} (ReflTransGenᴰ·tail {b} {c} p i) x t q =
-    let r = along n p x t q in
+along n ReflTransGenᴰ·refl x = (x, λ t q. q)
+along n {h} (ReflTransGenᴰ·tail {b} {c} p i) x =
+    let r = along n p x in
     let s = edge-of (enabled h) i in
-    (exec (r .0) (s .0) (s .1) b c (s .2), carry-brings b c (configuration n (r .0)) t (r .1))
+    (exec (r .0) (s .0) (s .1) b c (s .2), λ t q. carry-brings b c (configuration n (r .0)) t (r .1 t q))
+
+-- what Flows relates at the start is there
+initial-has : {n t c : ℕ} → Flows n empty t c → initial n c t ≡ true
+unfolding initial
+initial-has {n} (own {c} l) = both-and (lt-ltb c n l) (eq-eqb c c refl)
 
 -- completeness: for each pair of Flows some execution puts the tag there
 pub proposition-2 : {n : ℕ} {h : History} {t c : ℕ} → Flows n h t c → (x : Execution h) × (configuration n x c t ≡ true)
-unfolding configuration initial
-proposition-2 {n} (own {c} l) = (begin, both-and (lt-ltb c n l) (eq-eqb c c refl))
-proposition-2 {n} (next {t = t} e p q) = let r = proposition-2 p in along n q (event (r .0) e) t (r .1)
+unfolding configuration
+proposition-2 (own l) = (begin, initial-has (own l))
+proposition-2 {n} (next {t = t} e p q) =
+    let r = proposition-2 p in
+    let s = along n q (event (r .0) e) in
+    (s .0, s .1 t (r .1))
 
 -- THE GREATEST EXECUTION
 
@@ -109,12 +120,12 @@ unfolding configuration
 start-kept n begin c t q = q
 start-kept n (exec y f i a b j) c t q = carry-keeps a b (configuration n y) c t (start-kept n y c t q)
 
--- behind an event too: what each g z has, and what each z has if g z has it
-behind-has : (n : ℕ) {h : History} {e : Event} (g : Execution h → Execution h) (θ : Configuration) → ((z : Execution h) → θ ⊑ configuration n (g z))
-    → (y : Execution (h ▸ e)) → θ ⊑ configuration n (behind g y)
+-- where each g z has the pairs of x, so it is behind the event; and where each has those of z
+behind-has : (n : ℕ) {h : History} {e : Event} (x : Execution h) (g : Execution h → Execution h)
+    → ((z : Execution h) → configuration n x ⊑ configuration n (g z)) → (y : Execution (h ▸ e)) → configuration n (event x e) ⊑ configuration n (behind g y)
 unfolding configuration behind
-behind-has n g θ p (event y e) c t q = p y c t q
-behind-has n g θ p (exec y f i a b j) c t q = carry-keeps a b (configuration n (behind g y)) c t (behind-has n g θ p y c t q)
+behind-has n x g p (event y e) c t q = p y c t q
+behind-has n x g p (exec y f i a b j) c t q = carry-keeps a b (configuration n (behind g y)) c t (behind-has n x g p y c t q)
 
 behind-more : (n : ℕ) {h : History} {e : Event} (g : Execution h → Execution h) → ((z : Execution h) → configuration n z ⊑ configuration n (g z))
     → (y : Execution (h ▸ e)) → configuration n y ⊑ configuration n (behind g y)
@@ -126,7 +137,7 @@ behind-more n g p (exec y f i a b j) = carry-mono a b (behind-more n g p y)
 merge-left : (n : ℕ) {h : History} (x y : Execution h) → configuration n x ⊑ configuration n (merge x y)
 unfolding configuration merge
 merge-left n begin y = start-kept n y
-merge-left n (event x e) y = behind-has n (λ z. merge x z) (configuration n x) (λ z. merge-left n x z) y
+merge-left n (event x e) y = behind-has n x (λ z. merge x z) (λ z. merge-left n x z) y
 merge-left n (exec x f i a b j) y = carry-mono a b (merge-left n x y)
 
 merge-right : (n : ℕ) {h : History} (x y : Execution h) → configuration n y ⊑ configuration n (merge x y)
@@ -156,41 +167,63 @@ gather n {h} P up each (suc k) = both (gather n P up each k) (each k)
             let e : k ≡ i = omega (arith, l, m) in
             subst (λ (z : ℕ). P z (configuration n (merge x y))) e (up k (configuration n y) (configuration n (merge x y)) (merge-right n x y) q)
 
--- a tag of Flows is below n
-flows-tag : {n : ℕ} {h : History} {t c : ℕ} → Flows n h t c → t < n
-flows-tag (own l) = l
-flows-tag (next e p q) = flows-tag p
-
--- THE THEOREM. Where a configuration of n containers has exactly the pairs of Flows, an execution leaves it exactly if no execution of the history
--- puts a tag where this one does not; and there is such an execution
-abbrev pub Exact : ℕ → History → Configuration → Type 0
-Exact n h θ = ((x : Execution h) → (configuration n x ≡ θ) ↔ IsGreatest n x) × ((x : Execution h) × (configuration n x ≡ θ))
-
-pub exact : (n : ℕ) (h : History) (θ : Configuration) → ((c t : ℕ) → θ c t ≡ true → c < n) → ((c t : ℕ) → (θ c t ≡ true) ↔ Flows n h t c) → Exact n h θ
-exact n h θ inside tells = (λ x. (λ e. fore x e, λ g. same x (λ c t q. g (best .0) c t (best .1 c t q))), (best .0, same (best .0) (best .1)))
+-- behind the event: for each two containers, the way from the one to the other if there is one
+bring : (n : ℕ) (h : History) (e : Event) → Within n (edgesOf (enabled (h ▸ e))) → (x : Execution h)
+    → (y : Execution (h ▸ e)) × ((c : ℕ) → c < n → (a : ℕ) → a < n → Enabled* (h ▸ e) a c → (t : ℕ) → configuration n x a t ≡ true → configuration n y c t ≡ true)
+unfolding configuration
+bring n h e w x =
+    gather n (λ c η. (a : ℕ) → a < n → Enabled* (h ▸ e) a c → (t : ℕ) → configuration n x a t ≡ true → η c t ≡ true)
+    (λ c η η' m p a l q t u. m c t (p a l q t u)) from n
   where
-    -- no execution has more than θ, so one that has all of θ leaves θ
-    upper : (x : Execution h) → configuration n x ⊑ θ
-    upper x c t q = tells c t .1 (proposition-1 n x c t q)
+    one : (c a : ℕ) → (y : Execution (h ▸ e)) × (a < n → Enabled* (h ▸ e) a c → (t : ℕ) → configuration n x a t ≡ true → configuration n y c t ≡ true)
+    one c a =
+        cases (reaches n (edgesOf (enabled (h ▸ e))) a c)
+        (λ r. let s = along n (reaches-sound n (edgesOf (enabled (h ▸ e))) a c r) (event x e) in (s .0, λ l q. s .1))
+        (λ r. (idle (h ▸ e), λ l q. absurd (false≢true (sym r ∙ reaches-complete n (edgesOf (enabled (h ▸ e))) w l q))))
+    from : (c : ℕ) → (y : Execution (h ▸ e)) × ((a : ℕ) → a < n → Enabled* (h ▸ e) a c → (t : ℕ) → configuration n x a t ≡ true → configuration n y c t ≡ true)
+    from c =
+        let r = gather n (λ a η. a < n → Enabled* (h ▸ e) a c → (t : ℕ) → configuration n x a t ≡ true → η c t ≡ true) (λ a η η' m p l q t u. m c t (p l q t u)) (one c) n in
+        (r .0, λ a l. r .1 a l l)
 
-    same : (x : Execution h) → θ ⊑ configuration n x → configuration n x ≡ θ
-    same x p = fun-ext (λ c. fun-ext (λ t. iff (configuration n x c t) (θ c t) (upper x c t) (p c t)))
+-- an execution that brings all that Flows relates
+greatest-execution : (n : ℕ) (h : History) → Inside n h → (x : Execution h) × ((c t : ℕ) → Flows n h t c → configuration n x c t ≡ true)
+unfolding Inside configuration
+greatest-execution n empty i = (begin, λ c t p. initial-has p)
+greatest-execution n (h ▸ e) i =
+    let x = greatest-execution n h (i .0) in
+    let y = bring n h e (i .1) (x .0) in
+    (
+      y .0,
+      λ c t p.
+          let r = flows-next n h e t c .0 p in
+          y .1 c (flows-inside i p) (r .0) (flows-inside (i .0) (r .1)) (r .2) t (x .1 (r .0) t (r .1)),
+    )
 
-    fore : (x : Execution h) → configuration n x ≡ θ → IsGreatest n x
-    fore x e y c t q = subst (λ (η : Configuration). η c t ≡ true) (sym e) (upper y c t q)
+-- THE THEOREM, with no word of a tracker. A configuration that has exactly the pairs of Flows
+abbrev pub Tells : ℕ → History → Configuration → Type 0
+Tells n h θ = (c t : ℕ) → (θ c t ≡ true) ↔ Flows n h t c
 
-    -- one pair, then a container's pairs, then all
-    one : (c t : ℕ) → (x : Execution h) × (θ c t ≡ true → configuration n x c t ≡ true)
-    one c t = go (θ c t) refl
-      where
-        go : (b : Bool) → θ c t ≡ b → (x : Execution h) × (θ c t ≡ true → configuration n x c t ≡ true)
-        go true e = let r = proposition-2 (tells c t .0 e) in (r .0, λ q. r .1)
-        go false e = (idle h, λ q. absurd (false≢true (sym e ∙ q)))
+-- is left by an execution exactly if no execution of the history puts a tag where this one does not; and some execution leaves it
+pub exact : (n : ℕ) (h : History) → Inside n h
+    → ((x : Execution h) → Tells n h (configuration n x) ↔ IsGreatest n x) × ((x : Execution h) × Tells n h (configuration n x))
+exact n h i =
+    let best = greatest-execution n h i in
+    (
+      λ x.
+          (
+            λ tells y c t q. tells c t .1 (proposition-1 n y c t q),
+            λ greatest c t. (proposition-1 n x c t, λ p. greatest (best .0) c t (best .1 c t p)),
+          ),
+      (best .0, λ c t. (proposition-1 n (best .0) c t, best .1 c t)),
+    )
 
-    row : (c : ℕ) → (x : Execution h) × ((t : ℕ) → t < n → θ c t ≡ true → configuration n x c t ≡ true)
-    row c = gather n (λ t η. θ c t ≡ true → η c t ≡ true) (λ t η η' m p q. m c t (p q)) (one c) n
-
-    best : (x : Execution h) × (θ ⊑ configuration n x)
-    best =
-        let r = gather n (λ c η. (t : ℕ) → t < n → θ c t ≡ true → η c t ≡ true) (λ c η η' m p t l q. m c t (p t l q)) row n in
-        (r .0, λ c t q. r .1 c (inside c t q) t (flows-tag (tells c t .0 q)) q)
+-- the same for a configuration that is given
+pub exact-at : (n : ℕ) (h : History) → Inside n h → (θ : Configuration) → Tells n h θ
+    → ((x : Execution h) → (configuration n x ≡ θ) ↔ IsGreatest n x) × ((x : Execution h) × (configuration n x ≡ θ))
+exact-at n h i θ tells =
+    let r = exact n h i in
+    (λ x. (λ e. r .0 x .0 (subst (Tells n h) (sym e) tells), λ g. same x (r .0 x .1 g)), (r .1 .0, same (r .1 .0) (r .1 .1)))
+  where
+    same : (x : Execution h) → Tells n h (configuration n x) → configuration n x ≡ θ
+    same x told =
+        fun-ext (λ c. fun-ext (λ t. iff (configuration n x c t) (θ c t) (λ q. tells c t .1 (told c t .0 q)) (λ q. told c t .1 (tells c t .0 q))))

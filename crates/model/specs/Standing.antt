@@ -106,12 +106,6 @@ of-edge (g ∷ fs) {f} {a} {b} i j =
     ⊎-elim (λ q. Memᴰ·append-left (edgesOf fs) (subst (λ (x : Flow). (a, b) ∈ edges x) q j)) (λ m. Memᴰ·append-right (edges g) (of-edge fs m j))
     (List·Memᴰ·cases-cons i)
 
--- the ways of two lists of flows are those of the first and then those of the second
-pub edges-append : (fs gs : List Flow) → edgesOf (fs ++ gs) ≡ edgesOf fs ++ edgesOf gs
-unfolding edgesOf
-edges-append [] gs = refl
-edges-append (f ∷ fs) gs = ap (λ (l : List (ℕ × ℕ)). edges f ++ l) (edges-append fs gs) ∙ sym (append-assoc (edges f) (edgesOf fs) (edgesOf gs))
-
 -- WHAT ONE FLOW CARRIES: the only lemmas on the shape of `edges`
 
 -- a way of a flow goes from its one end to its other

@@ -92,7 +92,7 @@ pub record IsValid (s : State) : Type 0 where
   pub some : 1 ≤ s .header .containers
   pub most : s .header .containers ≤ 256
   -- 'counts are at most 512 and 4'
-  pub table-count : s .header .enabled ≤ 512
+  pub table-count : s .header .count ≤ 512
   pub policy-counts : (c : ℕ) → c < s .header .containers → getD (s .storage .counts) c 0 ≤ 4
   -- 'channel numbers rise strictly from at least 1 and don't pass the greatest'
   pub rising : Rising 0 (flowsOf s)
@@ -107,7 +107,7 @@ pub record IsValid (s : State) : Type 0 where
   -- 'for each open channel the from-set is part of the to-set'
   pub carried : (a b : ℕ) → (a, b) ∈ edgesOf (flowsOf s) → (t : ℕ) → has (setAt (s .storage .tags) a) t ≡ true → has (setAt (s .storage .tags) b) t ≡ true
   -- 'unused places are zero'
-  pub unused-flows : allOf isNoFlow (drop (s .header .enabled) (take 512 (s .storage .flows))) ≡ true
+  pub unused-flows : allOf isNoFlow (drop (s .header .count) (take 512 (s .storage .flows))) ≡ true
   pub unused-policies : (i : ℕ) → i < 16 * s .header .containers → 4 * getD (s .storage .counts) (i / 16) 0 ≤ i % 16 → getD (s .storage .policies) i 0 ≡ 0
 
 -- the tests of a valid state pass exactly there
@@ -158,9 +158,9 @@ all-of-at p (x ∷ xs) zero d h e = and-both (p x) (allOf p xs) e .0
 all-of-at p (x ∷ xs) (suc i) d h e = all-of-at p xs i d h (and-both (p x) (allOf p xs) e .1)
 
 -- each unused record is zero
-pub unused-flow : (s : State) → IsValid s → (i : ℕ) → s .header .enabled ≤ i → i < 512 → getD (s .storage .flows) i noFlow ≡ noFlow
+pub unused-flow : (s : State) → IsValid s → (i : ℕ) → s .header .count ≤ i → i < 512 → getD (s .storage .flows) i noFlow ≡ noFlow
 unused-flow s v i h l =
-    let k : ℕ = s .header .enabled in
+    let k : ℕ = s .header .count in
     let unused : List Flow = drop k (take 512 (s .storage .flows)) in
     let at : k + (i - k) ≡ i = omega arith in
     sym (getD-drop k (take 512 (s .storage .flows)) (i - k) noFlow

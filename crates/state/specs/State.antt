@@ -38,7 +38,7 @@ withSets n f ws = tabulate (4 * n) (λ i. getD (f (i / 4) .words) (i % 4) 0) ++ 
 
 -- the enabled flows: 'packed from the front'
 unfoldable pub flowsOf : State → List Flow
-flowsOf s = take (s .header .enabled) (s .storage .flows)
+flowsOf s = take (s .header .count) (s .storage .flows)
 
 -- a record that is not in use
 abbrev pub noFlow : Flow

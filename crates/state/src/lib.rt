@@ -2,6 +2,6 @@
 
 pub struct Header {
     pub containers: u32,
-    pub enabled: u32,
+    pub count: u32,
     pub greatest: u32,
 }

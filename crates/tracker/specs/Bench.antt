@@ -36,7 +36,7 @@ those i (suc k) p = let rest = those (suc i) k p in cond (p i) (i ∷ rest) rest
 -- the answer to each call in turn: refusal and gain
 unfoldable pub answers : State → List Call → List (ℕ × ℕ)
 answers s [] = []
-answers s (c ∷ cs) = let o = outcomeOf s c in (o .refusal, o .gain) ∷ answers (o .state) cs
+answers s (c ∷ cs) = let o = outcomeOf s c in (o .answer .refusal, o .answer .gain) ∷ answers (o .state) cs
 
 -- a row's n and events, with what the definitions give
 unfoldable pub computed : Sample → Sample

@@ -11,7 +11,8 @@ use Rattle.refusal.specs.Order.{NoneHolds, IsFirst}
 use Rattle.model.specs.declared.Flow.{Flow}
 use Rattle.model.specs.Model.{_∈_, flow, Event, disable, History, empty, enabled, Enabled, Flows, Execution, configuration, without, joins, accepted}
 use Rattle.model.specs.Standing.{Standing, standing, without-part, enabled-flow}
-use Rattle.model.specs.Propositions.{exact, proposition-1, proposition-2}
+use Rattle.model.specs.Histories.{accepted-each, accepted-inside}
+use Rattle.model.specs.Propositions.{exact-at, proposition-1, proposition-2}
 use Rattle.tagset.specs.Set.{has}
 use Rattle.state.specs.State.{Storage, State, badSize, setAt, flowsOf}
 use Rattle.state.specs.Valid.{validOf}
@@ -26,14 +27,14 @@ use Rattle.tracker.specs.Follows.{Follows, configuration-has, accepted-j
 -- DEMAND 1: the work, or the refusal that comes first in the paper's order; a refused event changes nothing
 
 -- refusal k is answered exactly if its condition holds and none before it in the order does
-pub start-answers-the-first : (n : ℕ) (lent : Storage) (k : ℕ) → (startOf n lent .refusal ≡ suc k) ↔ IsFirst (startOrder n lent) (suc k)
+pub start-answers-the-first : (n : ℕ) (lent : Storage) (k : ℕ) → (startOf n lent .answer .refusal ≡ suc k) ↔ IsFirst (startOrder n lent) (suc k)
 start-answers-the-first = start-refusal
 
-pub call-answers-the-first : (s : State) (c : Call) (k : ℕ) → (outcomeOf s c .refusal ≡ suc k) ↔ IsFirst (orderOf s c) (suc k)
+pub call-answers-the-first : (s : State) (c : Call) (k : ℕ) → (outcomeOf s c .answer .refusal ≡ suc k) ↔ IsFirst (orderOf s c) (suc k)
 call-answers-the-first = call-refusal
 
 -- and none exactly if no condition of the order holds
-pub call-is-accepted : (s : State) (c : Call) → (outcomeOf s c .refusal ≡ 0) ↔ NoneHolds (orderOf s c)
+pub call-is-accepted : (s : State) (c : Call) → (outcomeOf s c .answer .refusal ≡ 0) ↔ NoneHolds (orderOf s c)
 call-is-accepted = call-accepted
 
 -- what the two tests that every order begins with say: 9 is answered where the storage is not of these lengths, 12 where a clause of the paper's
@@ -45,11 +46,11 @@ pub state-is-judged : (s : State) → (validOf s ≡ true) ↔ IsValid s
 state-is-judged = valid
 
 -- a refused start gains 0, answers a header of zeros and leaves the lent lists; a refused call gains 0 and leaves header and lists
-pub refused-start-changes-nothing : (n : ℕ) (lent : Storage) (k : ℕ) → startOf n lent .refusal ≡ suc k
-    → (startOf n lent .state ≡ record { header = noHeader; storage = lent }) × (startOf n lent .gain ≡ 0)
+pub refused-start-changes-nothing : (n : ℕ) (lent : Storage) (k : ℕ) → startOf n lent .answer .refusal ≡ suc k
+    → (startOf n lent .state ≡ record { header = noHeader; storage = lent }) × (startOf n lent .answer .gain ≡ 0)
 refused-start-changes-nothing = start-refused
 
-pub refused-call-changes-nothing : (s : State) (c : Call) (k : ℕ) → outcomeOf s c .refusal ≡ suc k → (outcomeOf s c .state ≡ s) × (outcomeOf s c .gain ≡ 0)
+pub refused-call-changes-nothing : (s : State) (c : Call) (k : ℕ) → outcomeOf s c .answer .refusal ≡ suc k → (outcomeOf s c .state ≡ s) × (outcomeOf s c .answer .gain ≡ 0)
 refused-call-changes-nothing = call-refused
 
 -- storage past the lengths in use is never written, and no list becomes longer or shorter
@@ -60,24 +61,24 @@ pub call-writes-nothing-beyond : (s : State) (c : Call) → SameBeyond (s .heade
 call-writes-nothing-beyond = call-beyond
 
 -- VALID STAYS VALID: starting makes a valid state, and every call on a valid state leaves one
-pub start-makes-valid : (n : ℕ) (lent : Storage) → startOf n lent .refusal ≡ 0 → Usable (startOf n lent .state)
+pub start-makes-valid : (n : ℕ) (lent : Storage) → startOf n lent .answer .refusal ≡ 0 → Usable (startOf n lent .state)
 start-makes-valid = start-makes-usable
 
 pub call-keeps-valid : (s : State) (c : Call) → Usable s → Usable (outcomeOf s c .state)
-call-keeps-valid s c u = go c (outcomeOf s c .refusal) refl
+call-keeps-valid s c u = go c (outcomeOf s c .answer .refusal) refl
   where
-    go : (c : Call) (r : ℕ) → outcomeOf s c .refusal ≡ r → Usable (outcomeOf s c .state)
+    go : (c : Call) (r : ℕ) → outcomeOf s c .answer .refusal ≡ r → Usable (outcomeOf s c .state)
     go (ask e) zero a = event-leaves-usable s e a
     go c (suc k) a = rw (call-refused s c k a .0) u
 
 -- DEMAND 2: after an accepted history each tag set is the one that document 000's definition of flows gives
 
 -- the sets after an accepted event, in document 01's words
-pub sets-after-an-event : (s : State) (e : Event) → outcomeOf s (ask e) .refusal ≡ 0 → Sentence s (outcomeOf s (ask e) .state)
+pub sets-after-an-event : (s : State) (e : Event) → outcomeOf s (ask e) .answer .refusal ≡ 0 → Sentence s (outcomeOf s (ask e) .state)
 sets-after-an-event = event-sentence
 
 -- the gain of every call is the count of the (tag, container) pairs that are stored after it and were not before
-pub gain-is-counted : (s : State) (c : Call) → outcomeOf s c .gain ≡ gainOf (s .header .containers) (s .storage .tags) (outcomeOf s c .state .storage .tags)
+pub gain-is-counted : (s : State) (c : Call) → outcomeOf s c .answer .gain ≡ gainOf (s .header .containers) (s .storage .tags) (outcomeOf s c .state .storage .tags)
 gain-is-counted = gain-counted
 
 -- a disable changes no word of a tag set, and the general sentence, with the flows that are left, gives the same sets
@@ -92,7 +93,7 @@ disable-has-nothing-to-propagate s k u c t l =
 
 -- OVER A LIST OF CALLS on n containers, from any lent storage that starting accepted. Each call gets the header that the one before answered and the
 -- lists that it left, refused or not
-module _ (n : ℕ) (lent : Storage) (begun : startOf n lent .refusal ≡ 0) (calls : List Call) where
+module _ (n : ℕ) (lent : Storage) (begun : startOf n lent .answer .refusal ≡ 0) (calls : List Call) where
   -- the accepted history, from n and the calls' arguments alone
   abbrev pub history : History
   history = accepted n (eventsOf calls)
@@ -110,7 +111,7 @@ module _ (n : ℕ) (lent : Storage) (begun : startOf n lent .refusal ≡ 0) (cal
   tracker-writes-nothing-beyond = list-beyond n lent begun calls
 
   -- ACCEPTED EXACTLY IF IT JOINS, at every place of every list of calls: here at the one after `calls`
-  pub accepted-exactly-if-it-joins : (e : Event) → (outcomeOf tracker (ask e) .refusal ≡ 0) ↔ (joins n history e ≡ true)
+  pub accepted-exactly-if-it-joins : (e : Event) → (outcomeOf tracker (ask e) .answer .refusal ≡ 0) ↔ (joins n history e ≡ true)
   accepted-exactly-if-it-joins e = accepted-joins n history tracker e tracker-follows
 
   -- TAG t IS IN CONTAINER c's STORED SET exactly if Flows of the accepted history relates t to c
@@ -126,10 +127,7 @@ module _ (n : ℕ) (lent : Storage) (begun : startOf n lent .refusal ≡ 0) (cal
       ((x : Execution history) → (configuration n x ≡ configurationOf tracker)
       ↔ ((y : Execution history) (c t : ℕ) → configuration n y c t ≡ true → configuration n x c t ≡ true))
       × ((x : Execution history) × (configuration n x ≡ configurationOf tracker))
-  demand-3 = exact n history (configurationOf tracker) inside (tracker-follows .sets)
-    where
-      inside : (c t : ℕ) → configurationOf tracker c t ≡ true → c < n
-      inside c t q = omega (arith, configuration-has tracker c t .0 q .0, tracker-follows .size)
+  demand-3 = exact-at n history (accepted-inside (accepted-each n (eventsOf calls))) (configurationOf tracker) (tracker-follows .sets)
 
 -- THE MODEL, which mentions no tracker, is document 000's
 

@@ -80,9 +80,9 @@ started-beyond n lent z =
 
 -- a start leaves alone what lies past the lengths that n containers use
 pub start-beyond : (n : ℕ) (lent : Storage) → SameBeyond n (startOf n lent .state .storage) lent
-start-beyond n lent = go (startOf n lent .refusal) refl
+start-beyond n lent = go (startOf n lent .answer .refusal) refl
   where
-    go : (r : ℕ) → startOf n lent .refusal ≡ r → SameBeyond n (startOf n lent .state .storage) lent
+    go : (r : ℕ) → startOf n lent .answer .refusal ≡ r → SameBeyond n (startOf n lent .state .storage) lent
     go zero a = rw (start-leaves n lent a) (started-beyond n lent (sized n lent .0 (start-accepted n lent .0 a)))
     go (suc k) a = rw (start-refused n lent k a .0) (beyond-refl n lent)
 
@@ -108,9 +108,9 @@ changed-beyond s fs greatest tags u few same beyond =
 -- so does every call
 pub call-beyond : (s : State) (c : Call) → SameBeyond (s .header .containers) (outcomeOf s c .state .storage) (s .storage)
 unfolding enabling disabling
-call-beyond s c = go (outcomeOf s c .refusal) refl
+call-beyond s c = go (outcomeOf s c .answer .refusal) refl
   where
-    accepted : (c : Call) → outcomeOf s c .refusal ≡ 0 → SameBeyond (s .header .containers) (outcomeOf s c .state .storage) (s .storage)
+    accepted : (c : Call) → outcomeOf s c .answer .refusal ≡ 0 → SameBeyond (s .header .containers) (outcomeOf s c .state .storage) (s .storage)
     accepted (ask (enable f)) a =
         let e = enable-accepted s f .0 a in
         rw (enable-leaves s f a)
@@ -124,7 +124,7 @@ call-beyond s c = go (outcomeOf s c .refusal) refl
         (changed-beyond s (without k (flowsOf s)) (s .header .greatest) (s .storage .tags) u
         (omega (arith, without-length k (flowsOf s), flows-count s u, u .valid .table-count)) refl refl)
 
-    go : (r : ℕ) → outcomeOf s c .refusal ≡ r → SameBeyond (s .header .containers) (outcomeOf s c .state .storage) (s .storage)
+    go : (r : ℕ) → outcomeOf s c .answer .refusal ≡ r → SameBeyond (s .header .containers) (outcomeOf s c .state .storage) (s .storage)
     go zero a = accepted c a
     go (suc k) a = rw (call-refused s c k a .0) (beyond-refl (s .header .containers) (s .storage))
 
@@ -162,7 +162,7 @@ calls-beyond (ask e ∷ cs) s =
     beyond-trans (subst (λ (n : ℕ). SameBeyond n (after s' cs .storage) (s' .storage)) (event-containers s e) (calls-beyond cs s')) (call-beyond s (ask e))
 
 -- so it is from before starting
-pub list-beyond : (n : ℕ) (lent : Storage) → startOf n lent .refusal ≡ 0 → (cs : List Call) → SameBeyond n (after (startOf n lent .state) cs .storage) lent
+pub list-beyond : (n : ℕ) (lent : Storage) → startOf n lent .answer .refusal ≡ 0 → (cs : List Call) → SameBeyond n (after (startOf n lent .state) cs .storage) lent
 list-beyond n lent a cs =
     let size : startOf n lent .state .header .containers ≡ n = unfold started in ap (λ (s : State). s .header .containers) (start-leaves n lent a) in
     beyond-trans
@@ -189,13 +189,13 @@ gain-same (suc n) ws =
 
 -- a gain that is counted from the sets is so in the outcome too
 decided-gain : (r : ℕ) (s : State) (gain : ℕ) (s' : State) → gain ≡ gainOf (s .header .containers) (s .storage .tags) (s' .storage .tags)
-    → decided r s gain s' .gain ≡ gainOf (s .header .containers) (s .storage .tags) (decided r s gain s' .state .storage .tags)
+    → decided r s gain s' .answer .gain ≡ gainOf (s .header .containers) (s .storage .tags) (decided r s gain s' .state .storage .tags)
 unfolding decided
 decided-gain zero s gain s' e = e
 decided-gain (suc k) s gain s' e = sym (gain-same (s .header .containers) (s .storage .tags))
 
 -- every call's gain is the count of the pairs that are stored after it and were not before
-pub gain-counted : (s : State) (c : Call) → outcomeOf s c .gain ≡ gainOf (s .header .containers) (s .storage .tags) (outcomeOf s c .state .storage .tags)
+pub gain-counted : (s : State) (c : Call) → outcomeOf s c .answer .gain ≡ gainOf (s .header .containers) (s .storage .tags) (outcomeOf s c .state .storage .tags)
 unfolding outcomeOf enableOf disableOf disabling changed
 gain-counted s (ask (enable f)) = decided-gain (firstOf (enableOrder s f) 0) s _ _ refl
 gain-counted s (ask (disable k)) = decided-gain (firstOf (disableOrder s k) 0) s 0 _ (sym (gain-same (s .header .containers) (s .storage .tags)))

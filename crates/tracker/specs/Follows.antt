@@ -13,7 +13,7 @@ use borrow.Author.Tests.{eqb-true, eq-eqb}
 use Rattle.truth.specs.Truth.{and-iff, lt-iff}
 use Rattle.model.specs.declared.Flow.{Flow}
 use Rattle.model.specs.Model.{_∈_, Event, enable, disable, History, empty, _▸_, without, enabled, edgesOf, Flows, greatest, isEnabled, joins, joined, acceptedFrom}
-use Rattle.model.specs.Closure.{Within, reaches-inside, reaches-complete}
+use Rattle.model.specs.Closure.{Within, reached-inside}
 use Rattle.model.specs.Histories.{flows-empty, flows-next, MayEnable, enable-joins, disable-joins, joins-added, not-joins-same}
 use Rattle.tagset.specs.Set.{has}
 use Rattle.state.specs.State.{Storage, State, badSize, setAt, flowsOf}
@@ -55,11 +55,11 @@ start-follows n lent b =
     back c t p = let w = flows-empty n t c .0 p in configuration-has (started n lent) c t .1 (w .1, stored c t (w .1) ∙ eq-eqb t c (w .0))
 
 -- ACCEPTED EXACTLY IF IT JOINS
-pub accepted-joins : (n : ℕ) (h : History) (s : State) (e : Event) → Follows n h s → (outcomeOf s (ask e) .refusal ≡ 0) ↔ (joins n h e ≡ true)
+pub accepted-joins : (n : ℕ) (h : History) (s : State) (e : Event) → Follows n h s → (outcomeOf s (ask e) .answer .refusal ≡ 0) ↔ (joins n h e ≡ true)
 accepted-joins n h s (enable f) w =
     (λ a. enable-joins n h f .1 (fore (enable-accepted s f .0 a)), λ j. enable-accepted s f .1 (back (enable-joins n h f .0 j)))
   where
-    count : s .header .enabled ≡ length (enabled h)
+    count : s .header .count ≡ length (enabled h)
     count = sym (flows-count s (w .usable)) ∙ ap length (w .same-flows)
 
     fore : Enables s f → MayEnable n h f
@@ -89,16 +89,12 @@ accepted-joins n h s (disable k) w = (
 
 -- ONE CALL
 
--- a container that is reached from one below n is below n, where all ways are
-reached-inside : (n : ℕ) (es : List (ℕ × ℕ)) → Within n es → {a b : ℕ} → a < n → ReflTransGenᴰ (λ x y. (x, y) ∈ es) a b → b < n
-reached-inside n es w {a} {b} l p = reaches-inside n es a b (reaches-complete n es w l p) .1
-
 module _ (h : History) (s : State) where
   abbrev n : ℕ
   n = s .header .containers
 
   -- after an accepted event: where the flows and the greatest number are those of the history with it, so are the sets
-  event-follows : (e : Event) → Follows n h s → outcomeOf s (ask e) .refusal ≡ 0 → flowsOf (outcomeOf s (ask e) .state) ≡ enabled (h ▸ e)
+  event-follows : (e : Event) → Follows n h s → outcomeOf s (ask e) .answer .refusal ≡ 0 → flowsOf (outcomeOf s (ask e) .state) ≡ enabled (h ▸ e)
       → outcomeOf s (ask e) .state .header .greatest ≡ greatest (h ▸ e) → Follows n (h ▸ e) (outcomeOf s (ask e) .state)
   event-follows e w a flows greatest =
       record { size = size; usable = u; same-flows = flows; same-greatest = greatest; sets = λ c t. (fore c t, back c t) }
@@ -151,9 +147,9 @@ pub call-follows : (n : ℕ) (h : History) (s : State) (e : Event) → Follows n
 call-follows n h s e w =
     cases (joins n h e)
     (λ j. rw (joins-added n h e j) (subst (λ (m : ℕ). Follows m h s → joins m h e ≡ true → Follows m (h ▸ e) (outcomeOf s (ask e) .state)) (w .size) (event-joins h s e) w j))
-    (λ j. rw (not-joins-same n h e j) (refused j (outcomeOf s (ask e) .refusal) refl))
+    (λ j. rw (not-joins-same n h e j) (refused j (outcomeOf s (ask e) .answer .refusal) refl))
   where
-    refused : joins n h e ≡ false → (r : ℕ) → outcomeOf s (ask e) .refusal ≡ r → Follows n h (outcomeOf s (ask e) .state)
+    refused : joins n h e ≡ false → (r : ℕ) → outcomeOf s (ask e) .answer .refusal ≡ r → Follows n h (outcomeOf s (ask e) .state)
     refused j zero a = absurd (false≢true (sym j ∙ accepted-joins n h s e w .0 a))
     refused j (suc k) a = subst (λ (x : State). Follows n h x) (sym (call-refused s (ask e) k a .0)) w
 
@@ -164,5 +160,5 @@ calls-follow n [] h s w = w
 calls-follow n (ask e ∷ cs) h s w = calls-follow n cs (joined n h e) (outcomeOf s (ask e) .state) (call-follows n h s e w)
 
 -- the state that an accepted start leaves follows the empty history
-pub begun-follows : (n : ℕ) (lent : Storage) → startOf n lent .refusal ≡ 0 → Follows n empty (startOf n lent .state)
+pub begun-follows : (n : ℕ) (lent : Storage) → startOf n lent .answer .refusal ≡ 0 → Follows n empty (startOf n lent .state)
 begun-follows n lent a = rw (start-leaves n lent a) (start-follows n lent (start-accepted n lent .0 a))

@@ -14,17 +14,21 @@ use Rattle.state.specs.declared.Header.{Header}
 use Rattle.state.specs.State.{Storage, State, badSize, setAt, withSets, flowsOf, withFlows}
 use Rattle.state.specs.Valid.{validOf}
 
--- the refusal's number (0 where the call is accepted), the gain, and the state after: the header answered and the lists left
-pub record Outcome : Type 0 where
+-- the refusal's number, 0 where the call is accepted, and the gain
+pub record Answer : Type 0 where
   pub refusal : ℕ
   pub gain : ℕ
+
+-- the state after a call has the header that is answered and the lists that are left
+pub record Outcome : Type 0 where
+  pub answer : Answer
   pub state : State
 
 -- by the refusal's number, where 0 is none: the work; 'every refusal answers its number with all other numbers 0, the book's small numbers come
 -- back as they went in [..], and all lent memory keeps its content'
 unfoldable pub decided : ℕ → State → ℕ → State → Outcome
-decided zero before gain after = record { refusal = 0; gain = gain; state = after }
-decided (suc k) before gain after = record { refusal = suc k; gain = 0; state = before }
+decided zero before gain after = record { answer = record { refusal = 0; gain = gain }; state = after }
+decided (suc k) before gain after = record { answer = record { refusal = suc k; gain = 0 }; state = before }
 
 -- STARTING
 
@@ -35,7 +39,7 @@ startOrder n lent = (badSize n lent, 9) ∷ []
 unfoldable pub started : ℕ → Storage → State
 started n lent =
     record {
-      header = record { containers = n; enabled = 0; greatest = 0 };
+      header = record { containers = n; count = 0; greatest = 0 };
       storage =
           record {
             tags = withSets n singleOf (lent .tags);
@@ -47,7 +51,7 @@ started n lent =
 
 -- '0 from starting'
 abbrev pub noHeader : Header
-noHeader = record { containers = 0; enabled = 0; greatest = 0 }
+noHeader = record { containers = 0; count = 0; greatest = 0 }
 
 unfoldable pub startOf : ℕ → Storage → Outcome
 startOf n lent = decided (firstOf (startOrder n lent) 0) (record { header = noHeader; storage = lent }) 0 (started n lent)
@@ -62,7 +66,7 @@ enableOrder s f =
     ∷ (leb (s .header .containers) (f .to), 4)
     ∷ (eqb (f .from) (f .to), 5)
     ∷ (leb (f .number) (s .header .greatest), 6)
-    ∷ (leb 512 (s .header .enabled), 7) ∷ []
+    ∷ (leb 512 (s .header .count), 7) ∷ []
 
 -- the sets of all a below n that pass the test, united
 unfoldable pub unionOver : ℕ → (ℕ → Bool) → (ℕ → TagSet) → TagSet
@@ -83,7 +87,7 @@ gainOf (suc n) before after = countBelow 256 (λ t. has (setAt after n) t && not
 unfoldable pub changed : State → List Flow → ℕ → List ℕ → State
 changed s fs greatest tags =
     record {
-      header = record { containers = s .header .containers; enabled = length fs; greatest = greatest };
+      header = record { containers = s .header .containers; count = length fs; greatest = greatest };
       storage =
           record { tags = tags; policies = s .storage .policies; counts = s .storage .counts; flows = withFlows fs (s .storage .flows) };
     }

@@ -23,21 +23,21 @@ first-number cs k = (λ e. pick e (first-cases cs 0), λ h. first-is cs 0 h)
     pick e (inr h) = rw e at h
 
 -- the outcome has the number that was decided on
-pub decided-number : (r : ℕ) (s : State) (gain : ℕ) (s' : State) → decided r s gain s' .refusal ≡ r
+pub decided-number : (r : ℕ) (s : State) (gain : ℕ) (s' : State) → decided r s gain s' .answer .refusal ≡ r
 unfolding decided
 decided-number zero s gain s' = refl
 decided-number (suc k) s gain s' = refl
 
 -- where that is not 0, the state is the one before and nothing is gained
-pub decided-refused : (r : ℕ) (s : State) (gain : ℕ) (s' : State) (k : ℕ) → decided r s gain s' .refusal ≡ suc k
-    → (decided r s gain s' .state ≡ s) × (decided r s gain s' .gain ≡ 0)
+pub decided-refused : (r : ℕ) (s : State) (gain : ℕ) (s' : State) (k : ℕ) → decided r s gain s' .answer .refusal ≡ suc k
+    → (decided r s gain s' .state ≡ s) × (decided r s gain s' .answer .gain ≡ 0)
 unfolding decided
 decided-refused zero s gain s' k e = absurd (suc-ne-zero k (sym e))
 decided-refused (suc r) s gain s' k e = (refl, refl)
 
 -- and where it is 0, the work is done
-pub decided-done : (r : ℕ) (s : State) (gain : ℕ) (s' : State) → decided r s gain s' .refusal ≡ 0
-    → (decided r s gain s' .state ≡ s') × (decided r s gain s' .gain ≡ gain)
+pub decided-done : (r : ℕ) (s : State) (gain : ℕ) (s' : State) → decided r s gain s' .answer .refusal ≡ 0
+    → (decided r s gain s' .state ≡ s') × (decided r s gain s' .answer .gain ≡ gain)
 unfolding decided
 decided-done zero s gain s' e = (refl, refl)
 decided-done (suc r) s gain s' e = absurd (suc-ne-zero r e)
@@ -49,23 +49,23 @@ outcome-decided s (ask (enable f)) = (_, _, refl)
 outcome-decided s (ask (disable k)) = (_, _, refl)
 
 -- REFUSAL k is answered exactly if its condition holds and none before it in the order does
-pub start-refusal : (n : ℕ) (lent : Storage) (k : ℕ) → (startOf n lent .refusal ≡ suc k) ↔ IsFirst (startOrder n lent) (suc k)
+pub start-refusal : (n : ℕ) (lent : Storage) (k : ℕ) → (startOf n lent .answer .refusal ≡ suc k) ↔ IsFirst (startOrder n lent) (suc k)
 unfolding startOf
 start-refusal n lent k =
     rw (decided-number (firstOf (startOrder n lent) 0) (record { header = noHeader; storage = lent }) 0 (started n lent)) (first-number (startOrder n lent) k)
 
-pub call-refusal : (s : State) (c : Call) (k : ℕ) → (outcomeOf s c .refusal ≡ suc k) ↔ IsFirst (orderOf s c) (suc k)
+pub call-refusal : (s : State) (c : Call) (k : ℕ) → (outcomeOf s c .answer .refusal ≡ suc k) ↔ IsFirst (orderOf s c) (suc k)
 call-refusal s c k =
     let w = outcome-decided s c in
     rw (w .2, decided-number (firstOf (orderOf s c) 0) s (w .0) (w .1)) (first-number (orderOf s c) k)
 
 -- A REFUSED CALL gains 0 and leaves header and lists as they were; a refused start answers a header of zeros
-pub start-refused : (n : ℕ) (lent : Storage) (k : ℕ) → startOf n lent .refusal ≡ suc k
-    → (startOf n lent .state ≡ record { header = noHeader; storage = lent }) × (startOf n lent .gain ≡ 0)
+pub start-refused : (n : ℕ) (lent : Storage) (k : ℕ) → startOf n lent .answer .refusal ≡ suc k
+    → (startOf n lent .state ≡ record { header = noHeader; storage = lent }) × (startOf n lent .answer .gain ≡ 0)
 unfolding startOf
 start-refused n lent k = decided-refused (firstOf (startOrder n lent) 0) (record { header = noHeader; storage = lent }) 0 (started n lent) k
 
-pub call-refused : (s : State) (c : Call) (k : ℕ) → outcomeOf s c .refusal ≡ suc k → (outcomeOf s c .state ≡ s) × (outcomeOf s c .gain ≡ 0)
+pub call-refused : (s : State) (c : Call) (k : ℕ) → outcomeOf s c .answer .refusal ≡ suc k → (outcomeOf s c .state ≡ s) × (outcomeOf s c .answer .gain ≡ 0)
 call-refused s c k = let w = outcome-decided s c in rw (w .2) (decided-refused (firstOf (orderOf s c) 0) s (w .0) (w .1) k)
 
 -- ACCEPTED exactly if no condition of the order holds
@@ -90,12 +90,12 @@ unfolding numbered orderOf enableOrder disableOrder
 orders-numbered s (ask (enable f)) = refl
 orders-numbered s (ask (disable k)) = refl
 
-pub call-accepted : (s : State) (c : Call) → (outcomeOf s c .refusal ≡ 0) ↔ NoneHolds (orderOf s c)
+pub call-accepted : (s : State) (c : Call) → (outcomeOf s c .answer .refusal ≡ 0) ↔ NoneHolds (orderOf s c)
 call-accepted s c =
     let w = outcome-decided s c in
     rw (w .2, decided-number (firstOf (orderOf s c) 0) s (w .0) (w .1)) (first-zero (orderOf s c) (orders-numbered s c))
 
-pub start-accepted : (n : ℕ) (lent : Storage) → (startOf n lent .refusal ≡ 0) ↔ (badSize n lent ≡ false)
+pub start-accepted : (n : ℕ) (lent : Storage) → (startOf n lent .answer .refusal ≡ 0) ↔ (badSize n lent ≡ false)
 unfolding startOf
 start-accepted n lent =
     let r = first-zero (startOrder n lent) (unfold startOrder numbered in refl) in

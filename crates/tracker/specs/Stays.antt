@@ -57,9 +57,9 @@ without-length k (f ∷ fs) =
     cases (eqb (f .number) k) (λ e. rw e (omega arith)) (λ e. rw e (omega arith))
 
 -- the flows of a usable state are as many as its header says
-pub flows-count : (s : State) → Usable s → length (flowsOf s) ≡ s .header .enabled
+pub flows-count : (s : State) → Usable s → length (flowsOf s) ≡ s .header .count
 unfolding flowsOf
-flows-count s u = length-take-le (s .header .enabled) (s .storage .flows) (omega (arith, u .valid .table-count, u .sized .records))
+flows-count s u = length-take-le (s .header .count) (s .storage .flows) (omega (arith, u .valid .table-count, u .sized .records))
 
 -- the ways of some of the flows are ways of all
 edges-part : (fs gs : List Flow) → ((f : Flow) → f ∈ fs → f ∈ gs) → (a b : ℕ) → (a, b) ∈ edgesOf fs → (a, b) ∈ edgesOf gs
@@ -169,7 +169,7 @@ changed-usable s fs greatest tags u few rising past ends long known own carried 
 -- an enable that no refusal meets leaves a usable state
 pub enable-usable :
     (s : State) (f : Flow) → Usable s → f .from < s .header .containers → f .to < s .header .containers → f .from ≢ f .to
-    → s .header .greatest < f .number → s .header .enabled < 512
+    → s .header .greatest < f .number → s .header .count < 512
     → Usable (enabling s f)
 unfolding enabling
 enable-usable s f u from to differ above few =

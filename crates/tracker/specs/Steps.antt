@@ -28,9 +28,9 @@ pub record Enables (s : State) (f : Flow) : Type 0 where
   pub to-below : f .to < s .header .containers
   pub differ : f .from ≢ f .to
   pub above : s .header .greatest < f .number
-  pub room : s .header .enabled < 512
+  pub room : s .header .count < 512
 
-pub enable-accepted : (s : State) (f : Flow) → (outcomeOf s (ask (enable f)) .refusal ≡ 0) ↔ Enables s f
+pub enable-accepted : (s : State) (f : Flow) → (outcomeOf s (ask (enable f)) .answer .refusal ≡ 0) ↔ Enables s f
 unfolding orderOf enableOrder
 enable-accepted s f = (λ a. fore (call-accepted s (ask (enable f)) .0 a), λ e. call-accepted s (ask (enable f)) .1 (back e))
   where
@@ -45,7 +45,7 @@ enable-accepted s f = (λ a. fore (call-accepted s (ask (enable f)) .0 a), λ e.
         simp (not-not-iff, not-le-iff, ne-iff) (u .0, (u .1, (e .from-below, (e .to-below, (e .differ, (e .above, (e .room, tt)))))))
 
 -- no condition of a disable's order holds
-pub disable-accepted : (s : State) (k : ℕ) → (outcomeOf s (ask (disable k)) .refusal ≡ 0) ↔ (Usable s × (isEnabled k (flowsOf s) ≡ true))
+pub disable-accepted : (s : State) (k : ℕ) → (outcomeOf s (ask (disable k)) .answer .refusal ≡ 0) ↔ (Usable s × (isEnabled k (flowsOf s) ≡ true))
 unfolding orderOf disableOrder
 disable-accepted s k = (λ a. fore (call-accepted s (ask (disable k)) .0 a), λ e. call-accepted s (ask (disable k)) .1 (back e))
   where
@@ -58,32 +58,32 @@ disable-accepted s k = (λ a. fore (call-accepted s (ask (disable k)) .0 a), λ 
 -- WHAT THEY LEAVE
 
 -- what an accepted start leaves
-pub start-leaves : (n : ℕ) (lent : Storage) → startOf n lent .refusal ≡ 0 → startOf n lent .state ≡ started n lent
+pub start-leaves : (n : ℕ) (lent : Storage) → startOf n lent .answer .refusal ≡ 0 → startOf n lent .state ≡ started n lent
 unfolding startOf
 start-leaves n lent a = decided-done (firstOf (startOrder n lent) 0) (record { header = noHeader; storage = lent }) 0 (started n lent) a .0
 
 -- what an accepted enable or disable leaves
-pub enable-leaves : (s : State) (f : Flow) → outcomeOf s (ask (enable f)) .refusal ≡ 0 → outcomeOf s (ask (enable f)) .state ≡ enabling s f
+pub enable-leaves : (s : State) (f : Flow) → outcomeOf s (ask (enable f)) .answer .refusal ≡ 0 → outcomeOf s (ask (enable f)) .state ≡ enabling s f
 unfolding outcomeOf enableOf
 enable-leaves s f a = decided-done (firstOf (enableOrder s f) 0) s _ _ a .0
 
-pub disable-leaves : (s : State) (k : ℕ) → outcomeOf s (ask (disable k)) .refusal ≡ 0 → outcomeOf s (ask (disable k)) .state ≡ disabling s k
+pub disable-leaves : (s : State) (k : ℕ) → outcomeOf s (ask (disable k)) .answer .refusal ≡ 0 → outcomeOf s (ask (disable k)) .state ≡ disabling s k
 unfolding outcomeOf disableOf
 disable-leaves s k a = decided-done (firstOf (disableOrder s k) 0) s _ _ a .0
 
 -- a usable state
-pub start-makes-usable : (n : ℕ) (lent : Storage) → startOf n lent .refusal ≡ 0 → Usable (startOf n lent .state)
+pub start-makes-usable : (n : ℕ) (lent : Storage) → startOf n lent .answer .refusal ≡ 0 → Usable (startOf n lent .state)
 start-makes-usable n lent a = rw (start-leaves n lent a) (start-usable n lent (start-accepted n lent .0 a))
 
-enable-leaves-usable : (s : State) (f : Flow) → outcomeOf s (ask (enable f)) .refusal ≡ 0 → Usable (outcomeOf s (ask (enable f)) .state)
+enable-leaves-usable : (s : State) (f : Flow) → outcomeOf s (ask (enable f)) .answer .refusal ≡ 0 → Usable (outcomeOf s (ask (enable f)) .state)
 enable-leaves-usable s f a =
     let e = enable-accepted s f .0 a in
     rw (enable-leaves s f a) (enable-usable s f (e .before) (e .from-below) (e .to-below) (e .differ) (e .above) (e .room))
 
-disable-leaves-usable : (s : State) (k : ℕ) → outcomeOf s (ask (disable k)) .refusal ≡ 0 → Usable (outcomeOf s (ask (disable k)) .state)
+disable-leaves-usable : (s : State) (k : ℕ) → outcomeOf s (ask (disable k)) .answer .refusal ≡ 0 → Usable (outcomeOf s (ask (disable k)) .state)
 disable-leaves-usable s k a = rw (disable-leaves s k a) (disable-usable s k (disable-accepted s k .0 a .0))
 
-pub event-leaves-usable : (s : State) (e : Event) → outcomeOf s (ask e) .refusal ≡ 0 → Usable (outcomeOf s (ask e) .state)
+pub event-leaves-usable : (s : State) (e : Event) → outcomeOf s (ask e) .answer .refusal ≡ 0 → Usable (outcomeOf s (ask e) .state)
 event-leaves-usable s (enable f) = enable-leaves-usable s f
 event-leaves-usable s (disable k) = disable-leaves-usable s k
 
@@ -117,7 +117,7 @@ changed-sentence s fs greatest tags u same b t l =
     rw flows (Iff·trans (same b t l) (propagated-sentence (s .header .containers) fs (s .storage .tags) within b t l))
 
 -- and of every accepted event, enable or disable
-pub event-sentence : (s : State) (e : Event) → outcomeOf s (ask e) .refusal ≡ 0 → Sentence s (outcomeOf s (ask e) .state)
+pub event-sentence : (s : State) (e : Event) → outcomeOf s (ask e) .answer .refusal ≡ 0 → Sentence s (outcomeOf s (ask e) .state)
 unfolding enabling disabling
 event-sentence s (enable f) a =
     rw (enable-leaves s f a)
