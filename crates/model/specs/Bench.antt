@@ -25,15 +25,21 @@ pub chain-is-followed :
 unfolding edgesOf tabulate matrix cell isEdge reachVia
 chain-is-followed = refl
 
--- what does not join: number 0, a container of n or more at either end, a flow to itself, a number that is not above the greatest, a disable of what
--- is not enabled; and a refused enable uses up no number
+-- what does not join: number 0, a container of n or more at either end, a flow to itself, a number that is not above the greatest, also where its
+-- flow is closed, a disable of what is not enabled; and a refused enable uses up no number
 pub refused-events :
     accepted 3
     (enable (flow 0 0 1)
     ∷ enable (flow 5 3 0)
     ∷ enable (flow 5 0 3)
-    ∷ enable (flow 5 1 1) ∷ enable (flow 5 0 1) ∷ enable (flow 5 1 2) ∷ disable 4 ∷ enable (flow 6 1 2) ∷ disable 5 ∷ disable 5 ∷ [])
-    ≡ empty ▸ enable (flow 5 0 1) ▸ enable (flow 6 1 2) ▸ disable 5
+    ∷ enable (flow 5 1 1)
+    ∷ enable (flow 5 0 1)
+    ∷ enable (flow 5 1 2)
+    ∷ disable 0
+    ∷ disable 4
+    ∷ disable 9
+    ∷ disable 5 ∷ disable 5 ∷ enable (flow 5 1 2) ∷ enable (flow 6 1 2) ∷ [])
+    ≡ empty ▸ enable (flow 5 0 1) ▸ disable 5 ▸ enable (flow 6 1 2)
 unfolding isEnabled keep without enabled greatest joins joined acceptedFrom
 refused-events = refl
 

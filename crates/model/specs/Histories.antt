@@ -7,7 +7,7 @@ use Prim.Native.Nat.{ℕ, _≤_, _<_}
 use native.Mathlib.Omega.{arith}
 use lib.ListN.{length}
 use Rattle.model.specs.Closure.{Within, reached-inside}
-use Rattle.model.specs.Standing.{without-part, edge-of, of-edge, edge-ends}
+use Rattle.model.specs.Standing.{enabled-number, number-enabled, without-part, edge-of, of-edge, edge-ends}
 use Rattle.truth.specs.Truth.{and-iff, not-iff, lt-iff, ne-iff}
 use Rattle.model.specs.declared.Flow.{Flow}
 use Rattle.model.specs.Model.{_∈_, Event, enable, disable, History, empty, _▸_, without, enabled, edges, edgesOf, Enabled*, Flows, own, next}
@@ -88,6 +88,12 @@ enable-joins n h f =
 pub disable-joins : (n : ℕ) (h : History) (k : ℕ) → (joins n h (disable k) ≡ true) ↔ (isEnabled k (enabled h) ≡ true)
 unfolding joins
 disable-joins n h k = Iff·rfl
+
+pub disable-joins-flow : (n : ℕ) (h : History) (k : ℕ) → (joins n h (disable k) ≡ true) ↔ ((f : Flow) × (f ∈ enabled h) × (f .number ≡ k))
+disable-joins-flow n h k = (
+  λ j. enabled-number k (enabled h) (disable-joins n h k .0 j),
+  λ w. disable-joins n h k .1 (number-enabled k (enabled h) (w .1) (w .2)),
+)
 
 -- an event of a history is the last one or an earlier one
 occurs-cases : {e e' : Event} {h : History} → Occurs e (h ▸ e') → (e ≡ e') ⊎ Occurs e h

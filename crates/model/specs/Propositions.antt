@@ -1,7 +1,7 @@
 -- Propositions 1 and 2 of document 000, and the one execution that brings all that Flows relates. An execution of a flow goes along one enabled
 -- way, and what Flows relates is closed under these; two executions of a history merge into one with the pairs of both. Assumes nothing.
 use mathlib.Core.Path.{_≡_, refl, sym, _∙_, fun-ext, subst}
-use mathlib.Core.Bool.{Bool, true, false, _&&_, false≢true}
+use mathlib.Core.Bool.{true, _&&_, false≢true}
 use mathlib.Core.Logic.{_⊎_, inl, inr, _↔_, ⊎-elim}
 use mathlib.Core.List.{List·Memᴰ·not-nil}
 use mathlib.Mathlib.Logic.Relation.{ReflTransGenᴰ·refl, ReflTransGenᴰ·tail}
@@ -180,6 +180,7 @@ bring n h e w x =
         cases (reaches n (edgesOf (enabled (h ▸ e))) a c)
         (λ r. let s = along n (reaches-sound n (edgesOf (enabled (h ▸ e))) a c r) (event x e) in (s .0, λ l q. s .1))
         (λ r. (idle (h ▸ e), λ l q. absurd (false≢true (sym r ∙ reaches-complete n (edgesOf (enabled (h ▸ e))) w l q))))
+
     from : (c : ℕ) → (y : Execution (h ▸ e)) × ((a : ℕ) → a < n → Enabled* (h ▸ e) a c → (t : ℕ) → configuration n x a t ≡ true → configuration n y c t ≡ true)
     from c =
         let r = gather n (λ a η. a < n → Enabled* (h ▸ e) a c → (t : ℕ) → configuration n x a t ≡ true → η c t ≡ true) (λ a η η' m p l q t u. m c t (p l q t u)) (one c) n in
@@ -191,8 +192,7 @@ unfolding Inside configuration
 greatest-execution n empty i = (begin, λ c t p. initial-has p)
 greatest-execution n (h ▸ e) i =
     let x = greatest-execution n h (i .0) in
-    let y = bring n h e (i .1) (x .0) in
-    (
+    let y = bring n h e (i .1) (x .0) in (
       y .0,
       λ c t p.
           let r = flows-next n h e t c .0 p in
@@ -207,13 +207,11 @@ Tells n h θ = (c t : ℕ) → (θ c t ≡ true) ↔ Flows n h t c
 pub exact : (n : ℕ) (h : History) → Inside n h
     → ((x : Execution h) → Tells n h (configuration n x) ↔ IsGreatest n x) × ((x : Execution h) × Tells n h (configuration n x))
 exact n h i =
-    let best = greatest-execution n h i in
-    (
-      λ x.
-          (
-            λ tells y c t q. tells c t .1 (proposition-1 n y c t q),
-            λ greatest c t. (proposition-1 n x c t, λ p. greatest (best .0) c t (best .1 c t p)),
-          ),
+    let best = greatest-execution n h i in (
+      λ x. (
+        λ tells y c t q. tells c t .1 (proposition-1 n y c t q),
+        λ greatest c t. (proposition-1 n x c t, λ p. greatest (best .0) c t (best .1 c t p)),
+      ),
       (best .0, λ c t. (proposition-1 n (best .0) c t, best .1 c t)),
     )
 

@@ -6,7 +6,7 @@ use mathlib.Core.List.{List, [], _∷_, List·Memᴰ·head, List·Memᴰ·tail}
 use mathlib.Core.Logic.{_↔_, _≢_}
 use Prim.Native.Nat.{ℕ, zero, suc, _+_, _-_, _*_, _/_, _%_, _≤_, _<_}
 use native.Mathlib.Omega.{arith}
-use lib.ListN.{length, getD, take, drop}
+use lib.ListN.{length, getD, take, drop, length-take, length-drop}
 use lib.Seq.{getD-take, getD-drop}
 use Rattle.truth.specs.Truth.{and-both, and-iff, neither-iff, not-iff, le-iff, lt-iff, not-lt-iff, eq-iff, ne-iff}
 use Rattle.model.specs.declared.Flow.{Flow}
@@ -86,6 +86,47 @@ unfolding risingFrom Rising
 rising-iff k [] = (λ e. tt, λ u. refl)
 rising-iff k (f ∷ fs) = simp (tests, rising-iff (f .number) fs) (λ p. p, λ p. p)
 
+-- a record that passes is zero
+no-flow : (f : Flow) → isNoFlow f ≡ true → f ≡ noFlow
+no-flow f e = let p = simp tests at e in λ i. record { number = p .0 .0 i; from = p .0 .1 i; to = p .1 i }
+
+-- all elements pass exactly where what is read at each place does
+all-of-at : {A : Type 0} (p : A → Bool) (xs : List A) (i : ℕ) (d : A) → p d ≡ true → allOf p xs ≡ true → p (getD xs i d) ≡ true
+unfolding allOf
+all-of-at p [] i d h e = h
+all-of-at p (x ∷ xs) zero d h e = and-both (p x) (allOf p xs) e .0
+all-of-at p (x ∷ xs) (suc i) d h e = all-of-at p xs i d h (and-both (p x) (allOf p xs) e .1)
+
+at-all-of : {A : Type 0} (p : A → Bool) (xs : List A) (d : A) → ((i : ℕ) → i < length xs → p (getD xs i d) ≡ true) → allOf p xs ≡ true
+unfolding allOf
+at-all-of p [] d h = refl
+at-all-of p (x ∷ xs) d h = and-iff (p x) (allOf p xs) .1 (h 0 (omega arith), at-all-of p xs d (λ i l. h (suc i) (omega (arith, l))))
+
+-- of m records those from k on are zero
+pub unused-iff : (m k : ℕ) (fs : List Flow) → (allOf isNoFlow (drop k (take m fs)) ≡ true) ↔ ((i : ℕ) → k ≤ i → i < m → getD fs i noFlow ≡ noFlow)
+unused-iff m k fs = (fore, λ h. at-all-of isNoFlow (drop k (take m fs)) noFlow (back h))
+  where
+    unused : List Flow
+    unused = drop k (take m fs)
+
+    at : (i : ℕ) → k + i < m → getD unused i noFlow ≡ getD fs (k + i) noFlow
+    at i l = getD-drop k (take m fs) i noFlow ∙ getD-take m fs (k + i) noFlow l
+
+    fore : allOf isNoFlow unused ≡ true → (i : ℕ) → k ≤ i → i < m → getD fs i noFlow ≡ noFlow
+    fore e i h l =
+        let j : k + (i - k) ≡ i = omega (arith, h) in
+        ap (λ (x : ℕ). getD fs x noFlow) (sym j) ∙ sym (at (i - k) (omega (arith, j, l)))
+        ∙ no-flow (getD unused (i - k) noFlow) (all-of-at isNoFlow unused (i - k) noFlow refl e)
+
+    back : ((i : ℕ) → k ≤ i → i < m → getD fs i noFlow ≡ noFlow) → (i : ℕ) → i < length unused → isNoFlow (getD unused i noFlow) ≡ true
+    back h i l =
+        let r : k + i < m = omega (arith, l, length-drop k (take m fs), length-take m fs) in
+        ap isNoFlow (at i r ∙ h (k + i) (omega arith) r)
+
+-- both ends are containers, and differ
+abbrev pub ProperEnds : ℕ → Flow → Type 0
+ProperEnds n f = (f .from < n) × (f .to < n) × (f .from ≢ f .to)
+
 -- document 01, 'Storage': what is true of a valid state
 pub record IsValid (s : State) : Type 0 where
   -- 'n is 1 to 256'
@@ -98,7 +139,7 @@ pub record IsValid (s : State) : Type 0 where
   pub rising : Rising 0 (flowsOf s)
   pub not-past : (f : Flow) → f ∈ flowsOf s → f .number ≤ s .header .greatest
   -- 'all ends are below n and differ'
-  pub ends : (f : Flow) → f ∈ flowsOf s → (f .from < s .header .containers) × (f .to < s .header .containers) × (f .from ≢ f .to)
+  pub ends : (f : Flow) → f ∈ flowsOf s → ProperEnds (s .header .containers) f
   -- 'no set names a tag of n or more'
   pub known-tags : (c t : ℕ) → c < s .header .containers → has (setAt (s .storage .tags) c) t ≡ true → t < s .header .containers
   pub known-policies : (k t : ℕ) → k < 4 * s .header .containers → has (setAt (s .storage .policies) k) t ≡ true → t < s .header .containers
@@ -107,7 +148,7 @@ pub record IsValid (s : State) : Type 0 where
   -- 'for each open channel the from-set is part of the to-set'
   pub carried : (a b : ℕ) → (a, b) ∈ edgesOf (flowsOf s) → (t : ℕ) → has (setAt (s .storage .tags) a) t ≡ true → has (setAt (s .storage .tags) b) t ≡ true
   -- 'unused places are zero'
-  pub unused-flows : allOf isNoFlow (drop (s .header .count) (take 512 (s .storage .flows))) ≡ true
+  pub unused-flows : (i : ℕ) → s .header .count ≤ i → i < 512 → getD (s .storage .flows) i noFlow ≡ noFlow
   pub unused-policies : (i : ℕ) → i < 16 * s .header .containers → 4 * getD (s .storage .counts) (i / 16) 0 ≤ i % 16 → getD (s .storage .policies) i 0 ≡ 0
 
 -- the tests of a valid state pass exactly there
@@ -128,7 +169,7 @@ valid s =
             known-policies = λ k t l. sets k l t;
             own = own;
             carried = λ a b. carried (a, b);
-            unused-flows = simp tests flows;
+            unused-flows = unused-iff 512 (s .header .count) (s .storage .flows) .0 (simp tests flows);
             unused-policies = words;
           },
       λ v. (
@@ -142,30 +183,9 @@ valid s =
           ),
           λ e. v .carried (e .0) (e .1),
         ),
-        (simp tests at (v .unused-flows), v .unused-policies),
+        (simp tests at (unused-iff 512 (s .header .count) (s .storage .flows) .1 (v .unused-flows)), v .unused-policies),
       ),
     )
-
--- a record that passes is zero
-no-flow : (f : Flow) → isNoFlow f ≡ true → f ≡ noFlow
-no-flow f e = let p = simp tests at e in λ i. record { number = p .0 .0 i; from = p .0 .1 i; to = p .1 i }
-
--- where all elements pass, and the default too, what is read passes
-all-of-at : {A : Type 0} (p : A → Bool) (xs : List A) (i : ℕ) (d : A) → p d ≡ true → allOf p xs ≡ true → p (getD xs i d) ≡ true
-unfolding allOf
-all-of-at p [] i d h e = h
-all-of-at p (x ∷ xs) zero d h e = and-both (p x) (allOf p xs) e .0
-all-of-at p (x ∷ xs) (suc i) d h e = all-of-at p xs i d h (and-both (p x) (allOf p xs) e .1)
-
--- each unused record is zero
-pub unused-flow : (s : State) → IsValid s → (i : ℕ) → s .header .count ≤ i → i < 512 → getD (s .storage .flows) i noFlow ≡ noFlow
-unused-flow s v i h l =
-    let k : ℕ = s .header .count in
-    let unused : List Flow = drop k (take 512 (s .storage .flows)) in
-    let at : k + (i - k) ≡ i = omega arith in
-    sym (getD-drop k (take 512 (s .storage .flows)) (i - k) noFlow
-    ∙ ap (λ (j : ℕ). getD (take 512 (s .storage .flows)) j noFlow) at ∙ getD-take 512 (s .storage .flows) i noFlow l)
-    ∙ no-flow (getD unused (i - k) noFlow) (all-of-at isNoFlow unused (i - k) noFlow refl (v .unused-flows))
 
 -- a state that no call refuses for its storage (9) or its content (12)
 pub record Usable (s : State) : Type 0 where

@@ -6,15 +6,35 @@ use mathlib.Core.List.{List, _++_, append-assoc}
 use Prim.Native.Nat.{ℕ, zero, suc, _+_, _-_, _*_, _/_, _%_, _≤_, _<_}
 use native.Mathlib.Omega.{arith}
 use lib.ListN.{length, getD, take, drop, replicate, length-append, length-replicate, getD-replicate, List·getD-append}
-use lib.Seq.{length-front, length-take-le, take-at, drop-at, take-append-seam, drop-append-seam}
+use lib.Seq.{getD-take, length-front, length-take-le, take-at, drop-at, take-append-seam, drop-append-seam}
 use Rattle.model.specs.declared.Flow.{Flow}
 use Rattle.model.specs.Reach.{tabulate}
 use Rattle.model.specs.Closure.{tabulate-length, tabulate-at}
 use Rattle.tagset.specs.declared.TagSet.{TagSet}
 use Rattle.tagset.specs.Set.{bitAt, wordAt, hasW, has}
 use Rattle.tagset.specs.Word.{each-word}
-use Rattle.state.specs.State.{setAt, withSets, noFlow, withFlows}
+use Rattle.state.specs.State.{State, flowsOf, setAt, withSets, noFlow, withFlows}
 use Rattle.state.specs.Valid.{allOf, isNoFlow}
+
+-- Reading
+
+-- 'tag t is bit t mod 64 of word t div 64', and set k has the four words from 4k on
+pub set-bit : (ws : List ℕ) (k t : ℕ) → t < 256 → has (setAt ws k) t ≡ bitAt (getD ws (4 * k + t / 64) 0) (t % 64)
+unfolding hasW setAt
+set-bit ws k t h =
+    let word : (q : ℕ) → q < 4 → wordAt (setAt ws k .words) q ≡ getD ws (4 * k + q) 0 =
+    each-word (λ q. q < 4 → wordAt (setAt ws k .words) q ≡ getD ws (4 * k + q) 0) (λ l. ap (λ (i : ℕ). getD ws i 0) (omega arith)) (λ l. refl) (λ l. refl) (λ l. refl)
+    (λ q l. absurd (let z : ⊥ = omega (arith, l) in z)) in
+    ap (λ (w : ℕ). bitAt w (t % 64)) (word (t / 64) (omega (arith, h)))
+
+-- the enabled flows are the table's first records, as many as the header says
+pub flows-first : (s : State) (i : ℕ) (d : Flow) → i < s .header .count → getD (flowsOf s) i d ≡ getD (s .storage .flows) i d
+unfolding flowsOf
+flows-first s i d h = getD-take (s .header .count) (s .storage .flows) i d h
+
+pub flows-count : (s : State) → s .header .count ≤ 512 → 512 ≤ length (s .storage .flows) → length (flowsOf s) ≡ s .header .count
+unfolding flowsOf
+flows-count s h l = length-take-le (s .header .count) (s .storage .flows) (omega (arith, h, l))
 
 -- Sets
 

@@ -1,7 +1,7 @@
 -- The samples of document 01 on sets and gains, and its traps of the bench, computed on the outcome definitions. Assumes nothing.
 use mathlib.Core.Path.{_≡_, refl}
 use mathlib.Core.Bool.{Bool, cond}
-use mathlib.Core.List.{List, [], _∷_, map}
+use mathlib.Core.List.{List, [], _∷_, _++_, map}
 use Prim.Native.Nat.{ℕ, zero, suc, _+_, _*_}
 use lib.ListN.{replicate}
 use Rattle.model.specs.Model.{Event, enable, disable, flow, edgesOf, without, keep, isEnabled}
@@ -99,17 +99,36 @@ samples =
       answers = gained 1 ∷ gained 0 ∷ gained 0 ∷ gained 2 ∷ [];
       sets = (0 ∷ 2 ∷ []) ∷ (0 ∷ 1 ∷ 2 ∷ []) ∷ (2 ∷ []) ∷ [];
     }
-    -- not the paper's: refused events among others. Number 0 is never above the greatest, a refused enable uses up no
-    -- number, and of several conditions that hold the first decides
+    -- not the paper's: refused events among others. Number 0 is never above the greatest, a refused enable uses up no number, a number is not used
+    -- again after its flow is closed, and of several conditions that hold the first decides
     ∷ record {
       containers = 3;
       events =
           enable (flow 0 0 1)
           ∷ enable (flow 0 9 9)
+          ∷ enable (flow 0 1 1)
           ∷ enable (flow 5 3 0)
           ∷ enable (flow 5 0 3)
-          ∷ enable (flow 5 1 1) ∷ enable (flow 5 0 1) ∷ enable (flow 5 1 2) ∷ disable 4 ∷ enable (flow 6 1 2) ∷ disable 5 ∷ disable 5 ∷ [];
-      answers = (6, 0) ∷ (4, 0) ∷ (4, 0) ∷ (4, 0) ∷ (5, 0) ∷ gained 1 ∷ (6, 0) ∷ (8, 0) ∷ gained 2 ∷ gained 0 ∷ (8, 0) ∷ [];
+          ∷ enable (flow 5 1 1)
+          ∷ enable (flow 5 0 1)
+          ∷ enable (flow 5 1 2)
+          ∷ disable 0
+          ∷ disable 4
+          ∷ disable 9
+          ∷ disable 5 ∷ disable 5 ∷ enable (flow 5 1 2) ∷ enable (flow 6 1 2) ∷ [];
+      answers =
+          (6, 0)
+          ∷ (4, 0)
+          ∷ (5, 0)
+          ∷ (4, 0)
+          ∷ (4, 0)
+          ∷ (5, 0)
+          ∷ gained 1
+          ∷ (6, 0)
+          ∷ (8, 0)
+          ∷ (8, 0)
+          ∷ (8, 0)
+          ∷ gained 0 ∷ (8, 0) ∷ (6, 0) ∷ gained 2 ∷ [];
       sets = (0 ∷ []) ∷ (0 ∷ 1 ∷ []) ∷ (0 ∷ 1 ∷ 2 ∷ []) ∷ [];
     }
     ∷ []
@@ -117,3 +136,27 @@ samples =
 pub samples-hold : map computed samples ≡ samples
 unfolding samples computed answers after those lent edgesOf without keep isEnabled tabulate matrix cell isEdge reachVia hasW bitAt emptySet singleOf unionOf subsetOf exceedsOf countBelow allBelow anyBelow badSize setAt withSets flowsOf withFlows allOf risingFrom inLimits countsInLimits numbersRise endsProper tagsKnown ownTags setsCarried unusedZero validOf decided startOrder started startOf enableOrder unionOver propagated gainOf changed enabling enableOf disableOrder disabling disableOf outcomeOf
 samples-hold = refl
+
+-- what starting answers to n 0, 1, 3, 4 and 257 in storage for 3 containers, and what it leaves, word by word, for 1
+pub starts : map (λ n. startOf n (lent 3) .answer .refusal) (0 ∷ 1 ∷ 3 ∷ 4 ∷ 257 ∷ []) ≡ 9 ∷ 0 ∷ 0 ∷ 9 ∷ 9 ∷ []
+unfolding lent badSize decided startOrder startOf
+starts = refl
+
+pub started-words :
+    startOf 1 (lent 1)
+    ≡ record {
+      answer = record { refusal = 0; gain = 0 };
+      state =
+          record {
+            header = record { containers = 1; count = 0; greatest = 0 };
+            storage =
+                record {
+                  tags = 1 ∷ 0 ∷ 0 ∷ 0 ∷ 77 ∷ [];
+                  policies = 0 ∷ 0 ∷ 0 ∷ 0 ∷ 0 ∷ 0 ∷ 0 ∷ 0 ∷ 0 ∷ 0 ∷ 0 ∷ 0 ∷ 0 ∷ 0 ∷ 0 ∷ 0 ∷ 77 ∷ [];
+                  counts = 0 ∷ 77 ∷ [];
+                  flows = replicate 512 (flow 0 0 0) ++ (flow 7 7 7 ∷ []);
+                };
+          };
+    }
+unfolding lent badSize decided startOrder startOf started tabulate singleOf withSets withFlows
+started-words = refl

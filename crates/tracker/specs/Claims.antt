@@ -1,68 +1,116 @@
--- THE CLAIMS, each with the demand that it answers; of the definitions that the running calls are to equal. Definitions: model/specs/Model.antt
--- (containers, flows, executions; no word of a tracker), state/specs/State.antt and Valid.antt, Outcome.antt here. Assumes nothing.
+-- THE CLAIMS: what is true of the definitions that the running calls are to equal, each with the demand that it answers.
+-- The definitions: model/specs/Model.antt (containers, flows, executions; no word of a tracker); state/specs/State.antt and Valid.antt; Outcome.antt.
+-- Words of the claims: IsSized, IsValid, Usable (state/specs/IsValid.antt); StartAnswers, EnableAnswers, DisableAnswers (Table.antt); SameBeyond,
+-- totalOf (Effects.antt); Sentence, IsStarted, FlowsChanged (Steps.antt); Follows (Follows.antt); IsFirst (refusal/specs/Order.antt); Standing, Accepted,
+-- Occurs, MayEnable (model/specs). Assumes nothing.
 use mathlib.Core.Path.{_≡_, refl}
 use mathlib.Core.Bool.{true, false}
-use mathlib.Core.List.{List}
+use mathlib.Core.List.{List, [], _∷_, _++_}
 use mathlib.Core.Logic.{_↔_}
-use Prim.Native.Nat.{ℕ, zero, suc, _<_}
+use Prim.Native.Nat.{ℕ, zero, suc, _+_, _*_, _/_, _%_, _≤_, _<_}
 use native.Mathlib.Omega.{arith}
+use lib.ListN.{length, getD}
 use Rattle.truth.specs.Truth.{iff}
-use Rattle.refusal.specs.Order.{NoneHolds, IsFirst}
+use Rattle.refusal.specs.Order.{IsFirst}
 use Rattle.model.specs.declared.Flow.{Flow}
-use Rattle.model.specs.Model.{_∈_, flow, Event, disable, History, empty, enabled, Enabled, Flows, Execution, configuration, without, joins, accepted}
+use Rattle.model.specs.Model.{_∈_, flow, Event, enable, disable, History, empty, enabled, Enabled, Flows, Execution, configuration, without, greatest, joins, accepted}
 use Rattle.model.specs.Standing.{Standing, standing, without-part, enabled-flow}
-use Rattle.model.specs.Histories.{accepted-each, accepted-inside}
+use Rattle.model.specs.Histories.{accepted-each, accepted-inside, Accepted, Occurs, MayEnable, enable-joins, disable-joins-flow, numbers-rise}
 use Rattle.model.specs.Propositions.{exact-at, proposition-1, proposition-2}
-use Rattle.tagset.specs.Set.{has}
+use Rattle.tagset.specs.Set.{has, bitAt}
 use Rattle.state.specs.State.{Storage, State, badSize, setAt, flowsOf}
 use Rattle.state.specs.Valid.{validOf}
+use Rattle.state.specs.Layout.{set-bit, flows-first, flows-count}
 use Rattle.state.specs.IsValid.{IsSized, sized, IsValid, valid, Usable}
-use Rattle.tracker.specs.Outcome.{noHeader, startOrder, startOf, propagated, gainOf, Call, ask, orderOf, outcomeOf, eventsOf, after, configurationOf}
-use Rattle.tracker.specs.Refusals.{start-refusal, start-refused, call-refusal, call-refused, call-accepted}
+use Rattle.tracker.specs.Outcome.{startOrder, startOf, propagated, gainOf, enableOf, disableOf, Call, ask, orderOf, outcomeOf, eventsOf, after, configurationOf}
+use Rattle.tracker.specs.Refusals.{start-refusal, start-refused, call-refusal, call-refused}
+use Rattle.tracker.specs.Table.{StartAnswers, start-answers, EnableAnswers, enable-answers, DisableAnswers, disable-answers}
 use Rattle.tracker.specs.Stays.{settled}
-use Rattle.tracker.specs.Steps.{Sentence, start-makes-usable, event-leaves-usable, event-sentence}
-use Rattle.tracker.specs.Effects.{SameBeyond, start-beyond, call-beyond, list-beyond, disable-tags, gain-counted}
+use Rattle.tracker.specs.Steps.{start-makes-usable, event-leaves-usable, Sentence, enable-sentence, disable-sentence, IsStarted, start-is-started, FlowsChanged, enable-flows, disable-flows}
+use Rattle.tracker.specs.Effects.{start-gains-nothing, SameBeyond, start-beyond, call-beyond, list-beyond, disable-tags, gain-counted, totalOf, enable-gain, disable-gain}
 use Rattle.tracker.specs.Follows.{Follows, configuration-has, accepted-joins, calls-follow, begun-follows}
 
 -- DEMAND 1: the work, or the refusal that comes first in the paper's order; a refused event changes nothing
 
--- refusal k is answered exactly if its condition holds and none before it in the order does
+-- which number is answered, for every n, every state and every argument: the paper's table, row by row, in its order
+pub start-answers-by-the-table : (n : ℕ) (lent : Storage) (k : ℕ) → (startOf n lent .answer .refusal ≡ k) ↔ StartAnswers n lent k
+start-answers-by-the-table = start-answers
+
+pub enable-answers-by-the-table : (s : State) (f : Flow) (k : ℕ) → (enableOf s f .answer .refusal ≡ k) ↔ EnableAnswers s f k
+enable-answers-by-the-table = enable-answers
+
+pub disable-answers-by-the-table : (s : State) (k j : ℕ) → (disableOf s k .answer .refusal ≡ j) ↔ DisableAnswers s k j
+disable-answers-by-the-table = disable-answers
+
+-- the same of the lists of conditions: refusal k is answered exactly if its condition holds and none before it in the order does
 pub start-answers-the-first : (n : ℕ) (lent : Storage) (k : ℕ) → (startOf n lent .answer .refusal ≡ suc k) ↔ IsFirst (startOrder n lent) (suc k)
 start-answers-the-first = start-refusal
 
 pub call-answers-the-first : (s : State) (c : Call) (k : ℕ) → (outcomeOf s c .answer .refusal ≡ suc k) ↔ IsFirst (orderOf s c) (suc k)
 call-answers-the-first = call-refusal
 
--- and none exactly if no condition of the order holds
-pub call-is-accepted : (s : State) (c : Call) → (outcomeOf s c .answer .refusal ≡ 0) ↔ NoneHolds (orderOf s c)
-call-is-accepted = call-accepted
+-- the calls of a list are these
+pub a-call-is-an-enable : (s : State) (f : Flow) → outcomeOf s (ask (enable f)) ≡ enableOf s f
+unfolding outcomeOf
+a-call-is-an-enable s f = refl
 
--- what the two tests that every order begins with say: 9 is answered where the storage is not of these lengths, 12 where a clause of the paper's
--- sentence on a sound book fails
+pub a-call-is-a-disable : (s : State) (k : ℕ) → outcomeOf s (ask (disable k)) ≡ disableOf s k
+unfolding outcomeOf
+a-call-is-a-disable s k = refl
+
+-- what the tests behind 9 and 12 say, clause by clause; and how the lists are read
 pub size-is-judged : (n : ℕ) (lent : Storage) → (badSize n lent ≡ false) ↔ IsSized n lent
 size-is-judged = sized
 
 pub state-is-judged : (s : State) → (validOf s ≡ true) ↔ IsValid s
 state-is-judged = valid
 
--- a refused start gains 0, answers a header of zeros and leaves the lent lists; a refused call gains 0 and leaves header and lists
+pub tag-is-a-bit : (ws : List ℕ) (k t : ℕ) → t < 256 → has (setAt ws k) t ≡ bitAt (getD ws (4 * k + t / 64) 0) (t % 64)
+tag-is-a-bit = set-bit
+
+pub flow-is-a-record : (s : State) (i : ℕ) (d : Flow) → i < s .header .count → getD (flowsOf s) i d ≡ getD (s .storage .flows) i d
+flow-is-a-record = flows-first
+
+pub flows-are-counted : (s : State) → s .header .count ≤ 512 → 512 ≤ length (s .storage .flows) → length (flowsOf s) ≡ s .header .count
+flows-are-counted = flows-count
+
+-- A REFUSED START gains 0, answers a header of zeros and leaves the lent lists; a refused call gains 0 and leaves header and lists
 pub refused-start-changes-nothing : (n : ℕ) (lent : Storage) (k : ℕ) → startOf n lent .answer .refusal ≡ suc k
-    → (startOf n lent .state ≡ record { header = noHeader; storage = lent }) × (startOf n lent .answer .gain ≡ 0)
+    → (startOf n lent .state ≡ record { header = record { containers = 0; count = 0; greatest = 0 }; storage = lent }) × (startOf n lent .answer .gain ≡ 0)
 refused-start-changes-nothing = start-refused
 
-pub refused-call-changes-nothing : (s : State) (c : Call) (k : ℕ) → outcomeOf s c .answer .refusal ≡ suc k → (outcomeOf s c .state ≡ s) × (outcomeOf s c .answer .gain ≡ 0)
+pub refused-call-changes-nothing : (s : State) (c : Call) (k : ℕ) → outcomeOf s c .answer .refusal ≡ suc k
+    → (outcomeOf s c .state ≡ s) × (outcomeOf s c .answer .gain ≡ 0)
 refused-call-changes-nothing = call-refused
 
--- storage past the lengths in use is never written, and no list becomes longer or shorter
+-- STORAGE PAST THE LENGTHS IN USE is never written, and no list becomes longer or shorter
 pub start-writes-nothing-beyond : (n : ℕ) (lent : Storage) → SameBeyond n (startOf n lent .state .storage) lent
 start-writes-nothing-beyond = start-beyond
 
 pub call-writes-nothing-beyond : (s : State) (c : Call) → SameBeyond (s .header .containers) (outcomeOf s c .state .storage) (s .storage)
 call-writes-nothing-beyond = call-beyond
 
--- VALID STAYS VALID: starting makes a valid state, and every call on a valid state leaves one
+-- WHAT AN ACCEPTED CALL LEAVES beside tag sets: n containers with their own tags alone; the flow last and its number the greatest; the flow taken out
+pub start-makes-it-new : (n : ℕ) (lent : Storage) → startOf n lent .answer .refusal ≡ 0 → IsStarted n (startOf n lent .state) × (startOf n lent .answer .gain ≡ 0)
+start-makes-it-new n lent a = (start-is-started n lent a, start-gains-nothing n lent)
+
+pub enable-puts-the-flow-last : (s : State) (f : Flow) → enableOf s f .answer .refusal ≡ 0
+    → FlowsChanged (flowsOf s ++ (f ∷ [])) (f .number) s (enableOf s f .state)
+unfolding outcomeOf
+enable-puts-the-flow-last = enable-flows
+
+pub disable-takes-the-flow-out : (s : State) (k : ℕ) → disableOf s k .answer .refusal ≡ 0
+    → FlowsChanged (without k (flowsOf s)) (s .header .greatest) s (disableOf s k .state)
+unfolding outcomeOf
+disable-takes-the-flow-out = disable-flows
+
+-- VALID STAYS VALID (demand 1: no call is refused with 9 or 12 after an accepted start): starting makes a state of the right lengths and valid, an
+-- accepted event leaves one whatever the tests let pass, and every call on one leaves one
 pub start-makes-valid : (n : ℕ) (lent : Storage) → startOf n lent .answer .refusal ≡ 0 → Usable (startOf n lent .state)
 start-makes-valid = start-makes-usable
+
+pub accepted-event-leaves-valid : (s : State) (e : Event) → outcomeOf s (ask e) .answer .refusal ≡ 0 → Usable (outcomeOf s (ask e) .state)
+accepted-event-leaves-valid = event-leaves-usable
 
 pub call-keeps-valid : (s : State) (c : Call) → Usable s → Usable (outcomeOf s c .state)
 call-keeps-valid s c u = go c (outcomeOf s c .answer .refusal) refl
@@ -71,18 +119,34 @@ call-keeps-valid s c u = go c (outcomeOf s c .answer .refusal) refl
     go (ask e) zero a = event-leaves-usable s e a
     go c (suc k) a = rw (call-refused s c k a .0) u
 
--- DEMAND 2: after an accepted history each tag set is the one that document 000's definition of flows gives
+-- DEMAND 2, one event: each tag set is the one that document 01's sentence gives
 
--- the sets after an accepted event, in document 01's words
-pub sets-after-an-event : (s : State) (e : Event) → outcomeOf s (ask e) .answer .refusal ≡ 0 → Sentence s (outcomeOf s (ask e) .state)
-sets-after-an-event = event-sentence
+pub sets-after-an-enable : (s : State) (f : Flow) → enableOf s f .answer .refusal ≡ 0 → Sentence s (enableOf s f .state)
+unfolding outcomeOf
+sets-after-an-enable = enable-sentence
 
--- the gain of every call is the count of the (tag, container) pairs that are stored after it and were not before
-pub gain-is-counted : (s : State) (c : Call) → outcomeOf s c .answer .gain ≡ gainOf (s .header .containers) (s .storage .tags) (outcomeOf s c .state .storage .tags)
+pub sets-after-a-disable : (s : State) (k : ℕ) → disableOf s k .answer .refusal ≡ 0 → Sentence s (disableOf s k .state)
+unfolding outcomeOf
+sets-after-a-disable = disable-sentence
+
+-- THE GAIN of every call is the count of the (tag, container) pairs that are stored after it and were not before; of an enable it is what the sizes of
+-- the sets grow by, of a disable 0
+pub gain-is-counted : (s : State) (c : Call)
+    → outcomeOf s c .answer .gain ≡ gainOf (s .header .containers) (s .storage .tags) (outcomeOf s c .state .storage .tags)
 gain-is-counted = gain-counted
 
--- a disable changes no word of a tag set, and the general sentence, with the flows that are left, gives the same sets
-pub disable-changes-no-set : (s : State) (k : ℕ) → outcomeOf s (ask (disable k)) .state .storage .tags ≡ s .storage .tags
+pub enable-gains-what-sets-grow-by : (s : State) (f : Flow)
+    → totalOf (s .header .containers) (s .storage .tags) + enableOf s f .answer .gain ≡ totalOf (s .header .containers) (enableOf s f .state .storage .tags)
+unfolding outcomeOf
+enable-gains-what-sets-grow-by = enable-gain
+
+pub disable-gains-nothing : (s : State) (k : ℕ) → disableOf s k .answer .gain ≡ 0
+unfolding outcomeOf
+disable-gains-nothing = disable-gain
+
+-- A DISABLE CHANGES NO SET, and the general sentence, with the flows that are left, gives the same
+pub disable-changes-no-set : (s : State) (k : ℕ) → disableOf s k .state .storage .tags ≡ s .storage .tags
+unfolding outcomeOf
 disable-changes-no-set = disable-tags
 
 pub disable-has-nothing-to-propagate : (s : State) (k : ℕ) → Usable s → (c t : ℕ) → c < s .header .containers
@@ -91,8 +155,8 @@ disable-has-nothing-to-propagate s k u c t l =
     let p = settled s (without k (flowsOf s)) u (λ f. without-part k (flowsOf s)) c t l in
     iff (has (setAt (propagated (s .header .containers) (without k (flowsOf s)) (s .storage .tags)) c) t) (has (setAt (s .storage .tags) c) t) (p .0) (p .1)
 
--- OVER A LIST OF CALLS on n containers, from any lent storage that starting accepted. Each call gets the header that the one before answered and the
--- lists that it left, refused or not
+-- DEMANDS 2 AND 3, a list of calls on n containers, from any lent storage that starting accepted. Each call gets the header that the one before
+-- answered and the lists that it left, refused or not
 module _ (n : ℕ) (lent : Storage) (begun : startOf n lent .answer .refusal ≡ 0) (calls : List Call) where
   -- the accepted history, from n and the calls' arguments alone
   abbrev pub history : History
@@ -102,19 +166,19 @@ module _ (n : ℕ) (lent : Storage) (begun : startOf n lent .answer .refusal ≡
   abbrev pub tracker : State
   tracker = after (startOf n lent .state) calls
 
-  -- its n, its table of flows, its greatest number are the history's, and its state is valid
+  -- DEMANDS 1 AND 2: its n, its table of flows and its greatest number are the history's, its state is valid, and the lent storage past the lengths in
+  -- use is as it was before starting
   pub tracker-follows : Follows n history tracker
   tracker-follows = calls-follow n calls empty (startOf n lent .state) (begun-follows n lent begun)
 
-  -- and the lent storage past the lengths in use is as it was before starting
   pub tracker-writes-nothing-beyond : SameBeyond n (tracker .storage) lent
   tracker-writes-nothing-beyond = list-beyond n lent begun calls
 
-  -- ACCEPTED EXACTLY IF IT JOINS, at every place of every list of calls: here at the one after `calls`
+  -- DEMAND 2, ACCEPTED EXACTLY IF IT JOINS, at every place of every list of calls: here at the one after `calls`
   pub accepted-exactly-if-it-joins : (e : Event) → (outcomeOf tracker (ask e) .answer .refusal ≡ 0) ↔ (joins n history e ≡ true)
   accepted-exactly-if-it-joins e = accepted-joins n history tracker e tracker-follows
 
-  -- TAG t IS IN CONTAINER c's STORED SET exactly if Flows of the accepted history relates t to c
+  -- DEMAND 2, FLOWS: tag t is in container c's stored set exactly if Flows of the accepted history relates t to c
   pub sets-are-flows : (c t : ℕ) → c < n → (has (setAt (tracker .storage .tags) c) t ≡ true) ↔ Flows n history t c
   sets-are-flows c t l = (
     λ p. tracker-follows .sets c t .0 (configuration-has tracker c t .1 (omega (arith, l, tracker-follows .size), p)),
@@ -129,7 +193,22 @@ module _ (n : ℕ) (lent : Storage) (begun : startOf n lent .answer .refusal ≡
       × ((x : Execution history) × (configuration n x ≡ configurationOf tracker))
   demand-3 = exact-at n history (accepted-inside (accepted-each n (eventsOf calls))) (configurationOf tracker) (tracker-follows .sets)
 
--- THE MODEL, which mentions no tracker, is document 000's
+-- THE MODEL, which mentions no tracker, is the papers' (what demands 2 and 3 rest on)
+
+-- what joins: an enable whose ends are containers and differ, whose number is above the greatest, where fewer than 512 are enabled; a disable of a flow
+-- that is enabled
+pub enable-joins-exactly-if : (n : ℕ) (h : History) (f : Flow) → (joins n h (enable f) ≡ true) ↔ MayEnable n h f
+enable-joins-exactly-if = enable-joins
+
+pub disable-joins-exactly-if : (n : ℕ) (h : History) (k : ℕ) → (joins n h (disable k) ≡ true) ↔ ((f : Flow) × (f ∈ enabled h) × (f .number ≡ k))
+disable-joins-exactly-if = disable-joins-flow
+
+-- each event of an accepted history joined what was accepted before; and no number enabled in it is 0 or passes its greatest
+pub each-event-joined : (n : ℕ) (es : List Event) → Accepted n (accepted n es)
+each-event-joined = accepted-each
+
+pub greatest-is-greatest : {n : ℕ} {h : History} → Accepted n h → (f : Flow) → Occurs (enable f) h → (1 ≤ f .number) × (f .number ≤ greatest h)
+greatest-is-greatest = numbers-rise
 
 -- a flow is enabled exactly if the history enabled it and since then no event disabled its number; (a, b) ∈ Enabled exactly if one from a to b is
 pub enabled-is-standing : (f : Flow) (h : History) → (f ∈ enabled h) ↔ Standing f h

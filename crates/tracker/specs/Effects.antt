@@ -2,21 +2,23 @@
 use mathlib.Core.Path.{_≡_, refl, sym, ap, _∙_, subst}
 use mathlib.Core.Bool.{Bool, true, false, _&&_, not}
 use mathlib.Core.List.{List, [], _∷_, _++_}
-use Prim.Native.Nat.{ℕ, zero, suc, _*_, _≤_}
+use mathlib.Mathlib.Logic.Relation.{ReflTransGenᴰ·refl}
+use Prim.Native.Nat.{ℕ, zero, suc, _+_, _*_, _≤_, _<_}
 use native.Mathlib.Omega.{arith}
 use lib.ListN.{length, drop, length-append}
 use Rattle.refusal.specs.Order.{firstOf}
 use Rattle.model.specs.declared.Flow.{Flow}
 use Rattle.model.specs.Model.{Event, enable, disable, without}
-use Rattle.tagset.specs.Set.{has}
+use Rattle.tagset.specs.Set.{has, sizeOf, subsetOf}
+use Rattle.tagset.specs.Laws.{size-subset, subset-of-has, subset-refl}
 use Rattle.tagset.specs.Below.{count-none}
 use Rattle.state.specs.State.{Storage, State, setAt, flowsOf}
 use Rattle.state.specs.Layout.{sets-length, sets-beyond, front-length, front-beyond, flows-length, flows-beyond}
 use Rattle.state.specs.IsValid.{IsSized, sized, Usable}
-use Rattle.tracker.specs.Outcome.{decided, started, startOf, propagated, gainOf, changed, enabling, disabling, enableOrder, enableOf, disableOrder, disableOf, Call, ask, outcomeOf, after}
+use Rattle.tracker.specs.Outcome.{decided, noHeader, startOrder, started, startOf, propagated, gainOf, changed, enabling, disabling, enableOrder, enableOf, disableOrder, disableOf, Call, ask, outcomeOf, after}
 use Rattle.tracker.specs.Refusals.{call-refused, start-refused, start-accepted}
-use Rattle.tracker.specs.Stays.{flows-count, without-length, propagated-length}
-use Rattle.tracker.specs.Steps.{enable-accepted, disable-accepted, start-leaves, enable-leaves, disable-leaves}
+use Rattle.tracker.specs.Stays.{usable-count, without-length, propagated-length}
+use Rattle.tracker.specs.Steps.{Sentence, enable-sentence, enable-accepted, disable-accepted, start-leaves, enable-leaves, disable-leaves}
 
 -- two storages have the same lengths, and the same content past those that n containers use
 pub record SameBeyond (n : ℕ) (a b : Storage) : Type 0 where
@@ -115,14 +117,14 @@ call-beyond s c = go (outcomeOf s c .answer .refusal) refl
         let e = enable-accepted s f .0 a in
         rw (enable-leaves s f a)
         (changed-beyond s (flowsOf s ++ (f ∷ [])) (f .number) (propagated (s .header .containers) (flowsOf s ++ (f ∷ [])) (s .storage .tags)) (e .before)
-        (omega (arith, length-append (flowsOf s) (f ∷ []), flows-count s (e .before), e .room))
+        (omega (arith, length-append (flowsOf s) (f ∷ []), usable-count s (e .before), e .room))
         (propagated-length (s .header .containers) (flowsOf s ++ (f ∷ [])) (s .storage .tags) (e .before .sized .tag-words))
         (propagated-beyond (s .header .containers) (flowsOf s ++ (f ∷ [])) (s .storage .tags)))
     accepted (ask (disable k)) a =
         let u = disable-accepted s k .0 a .0 in
         rw (disable-leaves s k a)
         (changed-beyond s (without k (flowsOf s)) (s .header .greatest) (s .storage .tags) u
-        (omega (arith, without-length k (flowsOf s), flows-count s u, u .valid .table-count)) refl refl)
+        (omega (arith, without-length k (flowsOf s), usable-count s u, u .valid .table-count)) refl refl)
 
     go : (r : ℕ) → outcomeOf s c .answer .refusal ≡ r → SameBeyond (s .header .containers) (outcomeOf s c .state .storage) (s .storage)
     go zero a = accepted c a
@@ -134,24 +136,11 @@ unfolding decided
 decided-keeps get zero s gain s' e = e
 decided-keeps get (suc k) s gain s' e = refl
 
--- what every changed state keeps, every event keeps: n, the policy sets and their counts
-event-keeps : {A : Type 0} (get : State → A) → ((s : State) (fs : List Flow) (greatest : ℕ) (tags : List ℕ) → get (changed s fs greatest tags) ≡ get s)
-    → (s : State) (e : Event) → get (outcomeOf s (ask e) .state) ≡ get s
-unfolding outcomeOf enableOf disableOf enabling disabling
-event-keeps get p s (enable f) = decided-keeps get (firstOf (enableOrder s f) 0) s _ _ (p s _ _ _)
-event-keeps get p s (disable k) = decided-keeps get (firstOf (disableOrder s k) 0) s _ _ (p s _ _ _)
-
+-- n stays
 pub event-containers : (s : State) (e : Event) → outcomeOf s (ask e) .state .header .containers ≡ s .header .containers
-unfolding changed
-event-containers = event-keeps (λ s. s .header .containers) (λ s fs greatest tags. refl)
-
-pub event-policies : (s : State) (e : Event) → outcomeOf s (ask e) .state .storage .policies ≡ s .storage .policies
-unfolding changed
-event-policies = event-keeps (λ s. s .storage .policies) (λ s fs greatest tags. refl)
-
-pub event-counts : (s : State) (e : Event) → outcomeOf s (ask e) .state .storage .counts ≡ s .storage .counts
-unfolding changed
-event-counts = event-keeps (λ s. s .storage .counts) (λ s fs greatest tags. refl)
+unfolding outcomeOf enableOf disableOf enabling disabling changed
+event-containers s (enable f) = decided-keeps (λ s. s .header .containers) (firstOf (enableOrder s f) 0) s _ _ refl
+event-containers s (disable k) = decided-keeps (λ s. s .header .containers) (firstOf (disableOrder s k) 0) s _ _ refl
 
 -- over a list of calls the storage past the lengths in use stays too
 pub calls-beyond : (cs : List Call) (s : State) → SameBeyond (s .header .containers) (after s cs .storage) (s .storage)
@@ -199,3 +188,47 @@ pub gain-counted : (s : State) (c : Call) → outcomeOf s c .answer .gain ≡ ga
 unfolding outcomeOf enableOf disableOf disabling changed
 gain-counted s (ask (enable f)) = decided-gain (firstOf (enableOrder s f) 0) s _ _ refl
 gain-counted s (ask (disable k)) = decided-gain (firstOf (disableOrder s k) 0) s 0 _ (sym (gain-same (s .header .containers) (s .storage .tags)))
+
+-- how many (tag, container) pairs are stored: the sizes of the sets
+unfoldable pub totalOf : ℕ → List ℕ → ℕ
+totalOf zero ws = 0
+totalOf (suc n) ws = sizeOf (setAt ws n) + totalOf n ws
+
+-- where no set loses a tag, the gain is what the total grows by
+gain-total : (n : ℕ) (before after : List ℕ) → ((c : ℕ) → c < n → subsetOf (setAt before c) (setAt after c) ≡ true)
+    → totalOf n before + gainOf n before after ≡ totalOf n after
+unfolding totalOf gainOf
+gain-total zero before after p = refl
+gain-total (suc n) before after p =
+    omega (arith, size-subset (setAt before n) (setAt after n) (p n (omega arith)), gain-total n before after (λ c l. p c (omega (arith, l))))
+
+-- after an event of which the general sentence holds no set has lost a tag
+sentence-grows : (s s' : State) → Sentence s s' → (c : ℕ) → c < s .header .containers → subsetOf (setAt (s .storage .tags) c) (setAt (s' .storage .tags) c) ≡ true
+sentence-grows s s' p c l =
+    subset-of-has (setAt (s .storage .tags) c) (setAt (s' .storage .tags) c) (λ t h. p c t l .1 (c, l, h, ReflTransGenᴰ·refl))
+
+-- so the gain of an enable is what the sizes of the sets grow by
+pub enable-gain : (s : State) (f : Flow)
+    → totalOf (s .header .containers) (s .storage .tags) + outcomeOf s (ask (enable f)) .answer .gain
+    ≡ totalOf (s .header .containers) (outcomeOf s (ask (enable f)) .state .storage .tags)
+enable-gain s f =
+    rw (gain-counted s (ask (enable f)))
+    (gain-total (s .header .containers) (s .storage .tags) (outcomeOf s (ask (enable f)) .state .storage .tags) (go (outcomeOf s (ask (enable f)) .answer .refusal) refl))
+  where
+    go : (r : ℕ) → outcomeOf s (ask (enable f)) .answer .refusal ≡ r → (c : ℕ) → c < s .header .containers
+        → subsetOf (setAt (s .storage .tags) c) (setAt (outcomeOf s (ask (enable f)) .state .storage .tags) c) ≡ true
+    go zero a = sentence-grows s (outcomeOf s (ask (enable f)) .state) (enable-sentence s f a)
+    go (suc k) a = rw (call-refused s (ask (enable f)) k a .0) (λ c l. subset-refl (setAt (s .storage .tags) c))
+
+-- and a disable gains 0
+pub disable-gain : (s : State) (k : ℕ) → outcomeOf s (ask (disable k)) .answer .gain ≡ 0
+disable-gain s k = gain-counted s (ask (disable k)) ∙ rw (disable-tags s k) (gain-same (s .header .containers) (s .storage .tags))
+
+-- a start gains 0
+pub start-gains-nothing : (n : ℕ) (lent : Storage) → startOf n lent .answer .gain ≡ 0
+unfolding startOf
+start-gains-nothing n lent = go (firstOf (startOrder n lent) 0)
+  where
+    go : (r : ℕ) → decided r (record { header = noHeader; storage = lent }) 0 (started n lent) .answer .gain ≡ 0
+    go zero = unfold decided in refl
+    go (suc k) = unfold decided in refl

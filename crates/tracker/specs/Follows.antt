@@ -18,10 +18,10 @@ use Rattle.model.specs.Histories.{flows-empty, flows-next, MayEnable, enable-jo
 use Rattle.tagset.specs.Set.{has}
 use Rattle.state.specs.State.{Storage, State, badSize, setAt, flowsOf}
 use Rattle.state.specs.IsValid.{Usable}
-use Rattle.tracker.specs.Outcome.{started, startOf, propagated, changed, enabling, disabling, Call, ask, outcomeOf, eventsOf, after, configurationOf}
+use Rattle.tracker.specs.Outcome.{started, startOf, Call, ask, outcomeOf, eventsOf, after, configurationOf}
 use Rattle.tracker.specs.Refusals.{call-refused, start-accepted}
-use Rattle.tracker.specs.Stays.{flows-count, changed-flows, started-has, start-usable, flows-within}
-use Rattle.tracker.specs.Steps.{Enables, enable-accepted, disable-accepted, start-leaves, enable-leaves, disable-leaves, event-leaves-usable, event-sentence}
+use Rattle.tracker.specs.Stays.{Enables, usable-count, started-has, start-usable, flows-within}
+use Rattle.tracker.specs.Steps.{enable-accepted, disable-accepted, start-leaves, event-leaves-usable, Sentence, enable-sentence, disable-sentence, enable-flows, disable-flows}
 use Rattle.tracker.specs.Effects.{event-containers}
 
 -- the state is what the history makes of n containers
@@ -60,14 +60,14 @@ accepted-joins n h s (enable f) w =
     (λ a. enable-joins n h f .1 (fore (enable-accepted s f .0 a)), λ j. enable-accepted s f .1 (back (enable-joins n h f .0 j)))
   where
     count : s .header .count ≡ length (enabled h)
-    count = sym (flows-count s (w .usable)) ∙ ap length (w .same-flows)
+    count = sym (usable-count s (w .usable)) ∙ ap length (w .same-flows)
 
     fore : Enables s f → MayEnable n h f
     fore e =
         record {
-          from-below = omega (arith, e .from-below, w .size);
-          to-below = omega (arith, e .to-below, w .size);
-          differ = e .differ;
+          from-below = omega (arith, e .proper .0, w .size);
+          to-below = omega (arith, e .proper .1, w .size);
+          differ = e .proper .2;
           above = omega (arith, e .above, w .same-greatest);
           room = omega (arith, e .room, count);
         }
@@ -76,9 +76,7 @@ accepted-joins n h s (enable f) w =
     back m =
         record {
           before = w .usable;
-          from-below = omega (arith, m .from-below, w .size);
-          to-below = omega (arith, m .to-below, w .size);
-          differ = m .differ;
+          proper = (omega (arith, m .from-below, w .size), omega (arith, m .to-below, w .size), m .differ);
           above = omega (arith, m .above, w .same-greatest);
           room = omega (arith, m .room, count);
         }
@@ -94,9 +92,10 @@ module _ (h : History) (s : State) where
   n = s .header .containers
 
   -- after an accepted event: where the flows and the greatest number are those of the history with it, so are the sets
-  event-follows : (e : Event) → Follows n h s → outcomeOf s (ask e) .answer .refusal ≡ 0 → flowsOf (outcomeOf s (ask e) .state) ≡ enabled (h ▸ e)
-      → outcomeOf s (ask e) .state .header .greatest ≡ greatest (h ▸ e) → Follows n (h ▸ e) (outcomeOf s (ask e) .state)
-  event-follows e w a flows greatest =
+  event-follows : (e : Event) → Follows n h s → Usable (outcomeOf s (ask e) .state) → Sentence s (outcomeOf s (ask e) .state)
+      → flowsOf (outcomeOf s (ask e) .state) ≡ enabled (h ▸ e) → outcomeOf s (ask e) .state .header .greatest ≡ greatest (h ▸ e)
+      → Follows n (h ▸ e) (outcomeOf s (ask e) .state)
+  event-follows e w u sentence flows greatest =
       record { size = size; usable = u; same-flows = flows; same-greatest = greatest; sets = λ c t. (fore c t, back c t) }
     where
       s' : State
@@ -105,16 +104,13 @@ module _ (h : History) (s : State) where
       size : s' .header .containers ≡ n
       size = event-containers s e
 
-      u : Usable s'
-      u = event-leaves-usable s e a
-
       within : Within n (edgesOf (flowsOf s'))
       within = subst (λ (m : ℕ). Within m (edgesOf (flowsOf s'))) size (flows-within s' (u .valid))
 
       fore : (c t : ℕ) → configurationOf s' c t ≡ true → Flows n (h ▸ e) t c
       fore c t q =
           let v = configuration-has s' c t .0 q in
-          let r = event-sentence s e a c t (omega (arith, v .0, size)) .0 (v .1) in
+          let r = sentence c t (omega (arith, v .0, size)) .0 (v .1) in
           flows-next n h e t c .1 (r .0, w .sets (r .0) t .0 (configuration-has s (r .0) t .1 (r .1, r .2)), rw flows at (r .3))
 
       back : (c t : ℕ) → Flows n (h ▸ e) t c → configurationOf s' c t ≡ true
@@ -123,24 +119,21 @@ module _ (h : History) (s : State) where
           let v = configuration-has s (r .0) t .0 (w .sets (r .0) t .1 (r .1)) in
           let way : ReflTransGenᴰ (λ x y. (x, y) ∈ edgesOf (flowsOf s')) (r .0) c = rw flows (r .2) in
           let l = reached-inside n (edgesOf (flowsOf s')) within (v .0) way in
-          configuration-has s' c t .1 (omega (arith, l, size), event-sentence s e a c t l .1 (r .0, v .0, v .1, way))
+          configuration-has s' c t .1 (omega (arith, l, size), sentence c t l .1 (r .0, v .0, v .1, way))
 
   -- an event that joins
   event-joins : (e : Event) → Follows n h s → joins n h e ≡ true → Follows n (h ▸ e) (outcomeOf s (ask e) .state)
-  unfolding enabling disabling changed enabled greatest
+  unfolding enabled greatest
   event-joins (enable f) w j =
       let a = accepted-joins n h s (enable f) w .1 j in
-      let left = enable-leaves s f a in
-      let fs = flowsOf s ++ (f ∷ []) in
-      event-follows (enable f) w a
-      (ap flowsOf left ∙ changed-flows s fs (f .number) (propagated n fs (s .storage .tags)) ∙ ap (λ (gs : List Flow). gs ++ (f ∷ [])) (w .same-flows))
-      (ap (λ (x : State). x .header .greatest) left)
+      let r = enable-flows s f a in
+      event-follows (enable f) w (event-leaves-usable s (enable f) a) (enable-sentence s f a)
+      (r .flows ∙ ap (λ (fs : List Flow). fs ++ (f ∷ [])) (w .same-flows)) (r .greatest-is)
   event-joins (disable k) w j =
       let a = accepted-joins n h s (disable k) w .1 j in
-      let left = disable-leaves s k a in
-      event-follows (disable k) w a
-      (ap flowsOf left ∙ changed-flows s (without k (flowsOf s)) (s .header .greatest) (s .storage .tags) ∙ ap (without k) (w .same-flows))
-      (ap (λ (x : State). x .header .greatest) left ∙ w .same-greatest)
+      let r = disable-flows s k a in
+      event-follows (disable k) w (event-leaves-usable s (disable k) a) (disable-sentence s k a)
+      (r .flows ∙ ap (without k) (w .same-flows)) (r .greatest-is ∙ w .same-greatest)
 
 -- the state after a call follows the history after it, whether its event joins or not
 pub call-follows : (n : ℕ) (h : History) (s : State) (e : Event) → Follows n h s → Follows n (joined n h e) (outcomeOf s (ask e) .state)

@@ -4,6 +4,7 @@ pub mod Refusals
 pub mod Propagation
 pub mod Stays
 pub mod Steps
+pub mod Table
 pub mod Effects
 pub mod Follows
 pub mod Claims

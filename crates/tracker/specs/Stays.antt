@@ -2,14 +2,13 @@
 -- Assumes nothing.
 use mathlib.Core.Path.{_≡_, refl, sym, _∙_, subst}
 use mathlib.Core.Bool.{true, false, false≢true}
-use mathlib.Core.Logic.{_↔_, _≢_, ⊎-elim}
+use mathlib.Core.Logic.{_↔_, ⊎-elim}
 use mathlib.Core.List.{List, [], _∷_, _++_, List·Memᴰ·head, List·Memᴰ·tail, List·Memᴰ·not-nil, List·Memᴰ·append-cases, List·Memᴰ·eq-of-singleton}
 use mathlib.Mathlib.Logic.Relation.{ReflTransGenᴰ, ReflTransGenᴰ·refl, ReflTransGenᴰ·tail}
 use Prim.Native.Nat.{ℕ, _+_, _*_, _≤_, _<_}
 use native.Mathlib.Omega.{arith}
 use lib.Dec.{eqb}
 use lib.ListN.{length, getD, drop, replicate, length-append}
-use lib.Seq.{length-take-le}
 use borrow.Table.Steps.{cases}
 use borrow.Author.Tests.{eqb-true, eq-eqb}
 use Rattle.model.specs.declared.Flow.{Flow}
@@ -18,9 +17,9 @@ use Rattle.model.specs.Closure.{Within, reaches-sound, reaches-complete}
 use Rattle.model.specs.Standing.{without-part, edge-of, of-edge, within-flows}
 use Rattle.tagset.specs.Set.{has, emptySet, singleOf}
 use Rattle.tagset.specs.Laws.{empty-has, single-has}
-use Rattle.state.specs.State.{Storage, State, badSize, setAt, flowsOf}
-use Rattle.state.specs.Layout.{set-written, sets-length, front-length, front-at, flows-length, flows-taken, flows-unused}
-use Rattle.state.specs.IsValid.{IsSized, sized, Rising, IsValid, Usable}
+use Rattle.state.specs.State.{Storage, State, badSize, setAt, flowsOf, withFlows}
+use Rattle.state.specs.Layout.{flows-count, set-written, sets-length, front-length, front-at, flows-length, flows-taken, flows-unused}
+use Rattle.state.specs.IsValid.{IsSized, sized, Rising, unused-iff, ProperEnds, IsValid, Usable}
 use Rattle.tracker.specs.Outcome.{started, propagated, changed, enabling, disabling}
 use Rattle.tracker.specs.Propagation.{propagated-has}
 
@@ -57,9 +56,8 @@ without-length k (f ∷ fs) =
     cases (eqb (f .number) k) (λ e. rw e (omega arith)) (λ e. rw e (omega arith))
 
 -- the flows of a usable state are as many as its header says
-pub flows-count : (s : State) → Usable s → length (flowsOf s) ≡ s .header .count
-unfolding flowsOf
-flows-count s u = length-take-le (s .header .count) (s .storage .flows) (omega (arith, u .valid .table-count, u .sized .records))
+pub usable-count : (s : State) → Usable s → length (flowsOf s) ≡ s .header .count
+usable-count s u = flows-count s (u .valid .table-count) (u .sized .records)
 
 -- the ways of some of the flows are ways of all
 edges-part : (fs gs : List Flow) → ((f : Flow) → f ∈ fs → f ∈ gs) → (a b : ℕ) → (a, b) ∈ edgesOf fs → (a, b) ∈ edgesOf gs
@@ -127,7 +125,7 @@ changed-flows s fs greatest tags = flows-taken fs (s .storage .flows)
 changed-usable :
     (s : State) (fs : List Flow) (greatest : ℕ) (tags : List ℕ) → Usable s
     → length fs ≤ 512 → Rising 0 fs → ((f : Flow) → f ∈ fs → f .number ≤ greatest)
-    → ((f : Flow) → f ∈ fs → (f .from < s .header .containers) × (f .to < s .header .containers) × (f .from ≢ f .to))
+    → ((f : Flow) → f ∈ fs → ProperEnds (s .header .containers) f)
     → 4 * s .header .containers ≤ length tags
     → ((c t : ℕ) → c < s .header .containers → has (setAt tags c) t ≡ true → t < s .header .containers)
     → ((c : ℕ) → c < s .header .containers → has (setAt tags c) c ≡ true)
@@ -159,26 +157,33 @@ changed-usable s fs greatest tags u few rising past ends long known own carried 
             known-policies = u .valid .known-policies;
             own = own;
             carried = rw same carried;
-            unused-flows = flows-unused fs (s .storage .flows) few;
+            unused-flows = unused-iff 512 (length fs) (withFlows fs (s .storage .flows)) .0 (flows-unused fs (s .storage .flows) few);
             unused-policies = u .valid .unused-policies;
           };
     }
 
 -- CALLS
 
--- an enable that no refusal meets leaves a usable state
-pub enable-usable :
-    (s : State) (f : Flow) → Usable s → f .from < s .header .containers → f .to < s .header .containers → f .from ≢ f .to
-    → s .header .greatest < f .number → s .header .count < 512
-    → Usable (enabling s f)
+-- what a usable state and an enable must have for no refusal to apply
+pub record Enables (s : State) (f : Flow) : Type 0 where
+  pub before : Usable s
+  pub proper : ProperEnds (s .header .containers) f
+  pub above : s .header .greatest < f .number
+  pub room : s .header .count < 512
+
+-- such an enable leaves a usable state
+pub enable-usable : (s : State) (f : Flow) → Enables s f → Usable (enabling s f)
 unfolding enabling
-enable-usable s f u from to differ above few =
-    changed-usable s fs (f .number) (propagated n fs ws) u (omega (arith, length-append (flowsOf s) (f ∷ []), flows-count s u))
-    (rising-append 0 (s .header .greatest) (flowsOf s) f (u .valid .rising) (u .valid .not-past) (omega arith) above) past ends
+enable-usable s f e =
+    changed-usable s fs (f .number) (propagated n fs ws) u (omega (arith, length-append (flowsOf s) (f ∷ []), usable-count s u, e .room))
+    (rising-append 0 (s .header .greatest) (flowsOf s) f (u .valid .rising) (u .valid .not-past) (omega arith) (e .above)) past ends
     (rw (propagated-length n fs ws (u .sized .tag-words)) (u .sized .tag-words))
     (λ c t l h. let r = propagated-has n fs ws c t l .0 h in u .valid .known-tags (r .0) t (r .1) (r .3))
     (λ c l. propagated-keeps n fs ws within c c l (u .valid .own c l)) (propagated-carried n fs ws within)
   where
+    u : Usable s
+    u = e .before
+
     n : ℕ
     n = s .header .containers
 
@@ -194,21 +199,21 @@ enable-usable s f u from to differ above few =
 
     -- no number passes the new one
     past : (g : Flow) → g ∈ fs → g .number ≤ f .number
-    past = each (λ g. g .number ≤ f .number) (λ g i. omega (arith, u .valid .not-past g i)) (omega arith)
+    past = each (λ g. g .number ≤ f .number) (λ g i. omega (arith, u .valid .not-past g i, e .above)) (omega arith)
 
     -- all ends are proper
-    ends : (g : Flow) → g ∈ fs → (g .from < n) × (g .to < n) × (g .from ≢ g .to)
-    ends = each (λ g. (g .from < n) × (g .to < n) × (g .from ≢ g .to)) (u .valid .ends) (from, to, differ)
+    ends : (g : Flow) → g ∈ fs → ProperEnds n g
+    ends = each (ProperEnds n) (u .valid .ends) (e .proper)
 
     -- so are those of their ways
     within : Within n (edgesOf fs)
-    within = within-flows n fs (λ g i. let e = ends g i in (e .0, e .1))
+    within = within-flows n fs (λ g i. let p = ends g i in (p .0, p .1))
 
 -- a disable, whatever its number, leaves a usable state
 pub disable-usable : (s : State) (k : ℕ) → Usable s → Usable (disabling s k)
 unfolding disabling
 disable-usable s k u =
-    changed-usable s fs (s .header .greatest) (s .storage .tags) u (omega (arith, without-length k (flowsOf s), flows-count s u, u .valid .table-count))
+    changed-usable s fs (s .header .greatest) (s .storage .tags) u (omega (arith, without-length k (flowsOf s), usable-count s u, u .valid .table-count))
     (rising-without k 0 (flowsOf s) (u .valid .rising)) (λ f i. u .valid .not-past f (part f i)) (λ f i. u .valid .ends f (part f i))
     (u .sized .tag-words) (u .valid .known-tags) (u .valid .own) (λ a b i. u .valid .carried a b (edges-part fs (flowsOf s) part a b i))
   where
@@ -260,7 +265,7 @@ start-usable n lent e =
             known-policies = λ k t l h. absurd (false≢true (sym (zeros-has (16 * n) (lent .policies) k t (omega arith)) ∙ h));
             own = λ c l. started-has n lent e c c l ∙ eq-eqb c c refl;
             carried = λ a b i. absurd (List·Memᴰ·not-nil i);
-            unused-flows = flows-unused [] (lent .flows) (omega arith);
+            unused-flows = unused-iff 512 0 (withFlows [] (lent .flows)) .0 (flows-unused [] (lent .flows) (omega arith));
             unused-policies = λ i l h. front-at (16 * n) 0 (lent .policies) i 0 l;
           };
     }

@@ -1,10 +1,13 @@
 -- Accepted calls: which they are, what they leave, and the paper's sentence on the sets after them. Assumes nothing.
-use mathlib.Core.Path.{_≡_}
+use mathlib.Core.Path.{_≡_, refl}
 use mathlib.Core.Bool.{true}
 use mathlib.Core.List.{List, [], _∷_, _++_}
-use mathlib.Core.Logic.{_↔_, _≢_, Iff·rfl, Iff·symm, Iff·trans}
+use mathlib.Core.Logic.{_↔_, Iff·rfl, Iff·symm, Iff·trans}
 use mathlib.Mathlib.Logic.Relation.{ReflTransGenᴰ}
-use Prim.Native.Nat.{ℕ, _<_}
+use Prim.Native.Nat.{ℕ, _*_, _<_}
+use native.Mathlib.Omega.{arith}
+use lib.Dec.{eqb}
+use lib.ListN.{length, getD}
 use Rattle.truth.specs.Truth.{not-not-iff, not-le-iff, ne-iff}
 use Rattle.refusal.specs.Order.{firstOf, NoneHolds}
 use Rattle.model.specs.declared.Flow.{Flow}
@@ -12,24 +15,17 @@ use Rattle.model.specs.Model.{_∈_, Event, enable, disable, without, edgesOf, 
 use Rattle.model.specs.Closure.{Within, reaches-sound, reaches-complete}
 use Rattle.model.specs.Standing.{without-part}
 use Rattle.tagset.specs.Set.{has}
-use Rattle.state.specs.State.{Storage, State, setAt, flowsOf}
+use Rattle.state.specs.State.{Storage, State, setAt, flowsOf, noFlow}
+use Rattle.state.specs.Layout.{front-at}
 use Rattle.state.specs.IsValid.{Usable, usable}
 use Rattle.tracker.specs.Outcome.{noHeader, startOrder, started, startOf, propagated, changed, enabling, disabling, enableOrder, enableOf, disableOrder, disableOf, ask, outcomeOf, orderOf}
 use Rattle.tracker.specs.Refusals.{decided-done, call-accepted, start-accepted}
 use Rattle.tracker.specs.Propagation.{propagated-has}
-use Rattle.tracker.specs.Stays.{changed-flows, start-usable, enable-usable, disable-usable, flows-within, settled}
+use Rattle.tracker.specs.Stays.{Enables, changed-flows, started-has, start-usable, enable-usable, disable-usable, flows-within, settled}
 
 -- WHICH CALLS ARE ACCEPTED
 
 -- no condition of an enable's order holds
-pub record Enables (s : State) (f : Flow) : Type 0 where
-  pub before : Usable s
-  pub from-below : f .from < s .header .containers
-  pub to-below : f .to < s .header .containers
-  pub differ : f .from ≢ f .to
-  pub above : s .header .greatest < f .number
-  pub room : s .header .count < 512
-
 pub enable-accepted : (s : State) (f : Flow) → (outcomeOf s (ask (enable f)) .answer .refusal ≡ 0) ↔ Enables s f
 unfolding orderOf enableOrder
 enable-accepted s f = (λ a. fore (call-accepted s (ask (enable f)) .0 a), λ e. call-accepted s (ask (enable f)) .1 (back e))
@@ -37,12 +33,12 @@ enable-accepted s f = (λ a. fore (call-accepted s (ask (enable f)) .0 a), λ e.
     fore : NoneHolds (enableOrder s f) → Enables s f
     fore =
         simp (not-not-iff, not-le-iff, ne-iff)
-        (λ (b, (v, (x, (y, (d, (g, (r, z))))))). record { before = usable s .0 (b, v); from-below = x; to-below = y; differ = d; above = g; room = r })
+        (λ (b, (v, (x, (y, (d, (g, (r, z))))))). record { before = usable s .0 (b, v); proper = (x, y, d); above = g; room = r })
 
     back : Enables s f → NoneHolds (enableOrder s f)
     back e =
         let u = usable s .1 (e .before) in
-        simp (not-not-iff, not-le-iff, ne-iff) (u .0, (u .1, (e .from-below, (e .to-below, (e .differ, (e .above, (e .room, tt)))))))
+        simp (not-not-iff, not-le-iff, ne-iff) (u .0, (u .1, (e .proper .0, (e .proper .1, (e .proper .2, (e .above, (e .room, tt)))))))
 
 -- no condition of a disable's order holds
 pub disable-accepted : (s : State) (k : ℕ) → (outcomeOf s (ask (disable k)) .answer .refusal ≡ 0) ↔ (Usable s × (isEnabled k (flowsOf s) ≡ true))
@@ -77,8 +73,7 @@ start-makes-usable n lent a = rw (start-leaves n lent a) (start-usable n lent (s
 
 enable-leaves-usable : (s : State) (f : Flow) → outcomeOf s (ask (enable f)) .answer .refusal ≡ 0 → Usable (outcomeOf s (ask (enable f)) .state)
 enable-leaves-usable s f a =
-    let e = enable-accepted s f .0 a in
-    rw (enable-leaves s f a) (enable-usable s f (e .before) (e .from-below) (e .to-below) (e .differ) (e .above) (e .room))
+    rw (enable-leaves s f a) (enable-usable s f (enable-accepted s f .0 a))
 
 disable-leaves-usable : (s : State) (k : ℕ) → outcomeOf s (ask (disable k)) .answer .refusal ≡ 0 → Usable (outcomeOf s (ask (disable k)) .state)
 disable-leaves-usable s k a = rw (disable-leaves s k a) (disable-usable s k (disable-accepted s k .0 a .0))
@@ -116,14 +111,69 @@ changed-sentence s fs greatest tags u same b t l =
     let within : Within (s .header .containers) (edgesOf fs) = rw flows at (flows-within (changed s fs greatest tags) (u .valid)) in
     rw flows (Iff·trans (same b t l) (propagated-sentence (s .header .containers) fs (s .storage .tags) within b t l))
 
--- and of every accepted event, enable or disable
-pub event-sentence : (s : State) (e : Event) → outcomeOf s (ask e) .answer .refusal ≡ 0 → Sentence s (outcomeOf s (ask e) .state)
-unfolding enabling disabling
-event-sentence s (enable f) a =
+-- so it holds of every accepted enable, and of every accepted disable
+pub enable-sentence : (s : State) (f : Flow) → outcomeOf s (ask (enable f)) .answer .refusal ≡ 0 → Sentence s (outcomeOf s (ask (enable f)) .state)
+unfolding enabling
+enable-sentence s f a =
     rw (enable-leaves s f a)
     (changed-sentence s (flowsOf s ++ (f ∷ [])) (f .number) (propagated (s .header .containers) (flowsOf s ++ (f ∷ [])) (s .storage .tags))
     (rw (enable-leaves s f a) at (enable-leaves-usable s f a)) (λ b t l. Iff·rfl))
-event-sentence s (disable k) a =
+
+pub disable-sentence : (s : State) (k : ℕ) → outcomeOf s (ask (disable k)) .answer .refusal ≡ 0 → Sentence s (outcomeOf s (ask (disable k)) .state)
+unfolding disabling
+disable-sentence s k a =
     rw (disable-leaves s k a)
     (changed-sentence s (without k (flowsOf s)) (s .header .greatest) (s .storage .tags) (rw (disable-leaves s k a) at (disable-leaves-usable s k a))
     (λ b t l. Iff·symm (settled s (without k (flowsOf s)) (disable-accepted s k .0 a .0) (λ f. without-part k (flowsOf s)) b t l)))
+
+-- WHAT ELSE THEY LEAVE
+
+-- what a start makes: n containers with their own tags alone, no policy set, no flow
+pub record IsStarted (n : ℕ) (s : State) : Type 0 where
+  pub containers : s .header .containers ≡ n
+  pub no-flows : s .header .count ≡ 0
+  pub no-number : s .header .greatest ≡ 0
+  pub own-alone : (c t : ℕ) → c < n → has (setAt (s .storage .tags) c) t ≡ eqb t c
+  pub no-policies : (c : ℕ) → c < n → getD (s .storage .counts) c 0 ≡ 0
+  pub zero-policies : (i : ℕ) → i < 16 * n → getD (s .storage .policies) i 0 ≡ 0
+  pub zero-flows : (i : ℕ) → i < 512 → getD (s .storage .flows) i noFlow ≡ noFlow
+
+pub start-is-started : (n : ℕ) (lent : Storage) → startOf n lent .answer .refusal ≡ 0 → IsStarted n (startOf n lent .state)
+unfolding started
+start-is-started n lent a =
+    let b = start-accepted n lent .0 a in
+    rw (start-leaves n lent a)
+    (record {
+      containers = refl;
+      no-flows = refl;
+      no-number = refl;
+      own-alone = started-has n lent b;
+      no-policies = λ c l. front-at n 0 (lent .counts) c 0 l;
+      zero-policies = λ i l. front-at (16 * n) 0 (lent .policies) i 0 l;
+      zero-flows = λ i l. start-usable n lent b .valid .unused-flows i (omega arith) l;
+    })
+
+-- a state with these flows enabled and this greatest number, and otherwise with what another has that is no tag set
+pub record FlowsChanged (fs : List Flow) (greatest : ℕ) (s s' : State) : Type 0 where
+  pub flows : flowsOf s' ≡ fs
+  pub count : s' .header .count ≡ length fs
+  pub greatest-is : s' .header .greatest ≡ greatest
+  pub containers : s' .header .containers ≡ s .header .containers
+  pub policies : s' .storage .policies ≡ s .storage .policies
+  pub counts : s' .storage .counts ≡ s .storage .counts
+
+changed-so : (s : State) (fs : List Flow) (greatest : ℕ) (tags : List ℕ) → FlowsChanged fs greatest s (changed s fs greatest tags)
+unfolding changed
+changed-so s fs greatest tags =
+    record { flows = changed-flows s fs greatest tags; count = refl; greatest-is = refl; containers = refl; policies = refl; counts = refl }
+
+-- an accepted enable puts its flow last and makes its number the greatest; an accepted disable takes its flow out
+pub enable-flows : (s : State) (f : Flow) → outcomeOf s (ask (enable f)) .answer .refusal ≡ 0
+    → FlowsChanged (flowsOf s ++ (f ∷ [])) (f .number) s (outcomeOf s (ask (enable f)) .state)
+unfolding enabling
+enable-flows s f a = rw (enable-leaves s f a) (changed-so s (flowsOf s ++ (f ∷ [])) (f .number) (propagated (s .header .containers) (flowsOf s ++ (f ∷ [])) (s .storage .tags)))
+
+pub disable-flows : (s : State) (k : ℕ) → outcomeOf s (ask (disable k)) .answer .refusal ≡ 0
+    → FlowsChanged (without k (flowsOf s)) (s .header .greatest) s (outcomeOf s (ask (disable k)) .state)
+unfolding disabling
+disable-flows s k a = rw (disable-leaves s k a) (changed-so s (without k (flowsOf s)) (s .header .greatest) (s .storage .tags))
