@@ -14,11 +14,11 @@ use Rattle.tagset.specs.Laws.{size-subset, subset-of-has, subset-refl}
 use Rattle.tagset.specs.Below.{count-none}
 use Rattle.state.specs.State.{Storage, State, setAt, flowsOf}
 use Rattle.state.specs.Layout.{sets-length, sets-beyond, front-length, front-beyond, flows-length, flows-beyond}
-use Rattle.state.specs.IsValid.{IsSized, sized, Usable}
+use Rattle.state.specs.IsValid.{IsSized, Usable}
 use Rattle.tracker.specs.Outcome.{decided, noHeader, startOrder, started, startOf, propagated, gainOf, changed, enabling, disabling, enableOrder, enableOf, disableOrder, disableOf, Call, ask, outcomeOf, after}
-use Rattle.tracker.specs.Refusals.{call-refused, start-refused, start-accepted}
+use Rattle.tracker.specs.Refusals.{call-refused, start-refused}
 use Rattle.tracker.specs.Stays.{usable-count, without-length, propagated-length}
-use Rattle.tracker.specs.Steps.{Sentence, enable-sentence, enable-accepted, disable-accepted, start-leaves, enable-leaves, disable-leaves}
+use Rattle.tracker.specs.Steps.{Sentence, enable-sentence, start-accepted, enable-accepted, disable-accepted, start-leaves, enable-leaves, disable-leaves}
 
 -- two storages have the same lengths, and the same content past those that n containers use
 pub record SameBeyond (n : ℕ) (a b : Storage) : Type 0 where
@@ -85,7 +85,7 @@ pub start-beyond : (n : ℕ) (lent : Storage) → SameBeyond n (startOf n lent .
 start-beyond n lent = go (startOf n lent .answer .refusal) refl
   where
     go : (r : ℕ) → startOf n lent .answer .refusal ≡ r → SameBeyond n (startOf n lent .state .storage) lent
-    go zero a = rw (start-leaves n lent a) (started-beyond n lent (sized n lent .0 (start-accepted n lent .0 a)))
+    go zero a = rw (start-leaves n lent a) (started-beyond n lent (start-accepted n lent .0 a))
     go (suc k) a = rw (start-refused n lent k a .0) (beyond-refl n lent)
 
 -- CALLS
@@ -165,6 +165,19 @@ disable-tags s k = decided-keeps (λ s. s .storage .tags) (firstOf (disableOrder
 
 -- THE GAIN
 
+-- how many (tag, container) pairs are stored: the sizes of the sets
+unfoldable pub totalOf : ℕ → List ℕ → ℕ
+totalOf zero ws = 0
+totalOf (suc n) ws = sizeOf (setAt ws n) + totalOf n ws
+
+-- where no set loses a tag, the gain is what the total grows by
+gain-total : (n : ℕ) (before after : List ℕ) → ((c : ℕ) → c < n → subsetOf (setAt before c) (setAt after c) ≡ true)
+    → totalOf n before + gainOf n before after ≡ totalOf n after
+unfolding totalOf gainOf
+gain-total zero before after p = refl
+gain-total (suc n) before after p =
+    omega (arith, size-subset (setAt before n) (setAt after n) (p n (omega arith)), gain-total n before after (λ c l. p c (omega (arith, l))))
+
 -- between the same sets nothing is gained
 gain-same : (n : ℕ) (ws : List ℕ) → gainOf n ws ws ≡ 0
 unfolding gainOf
@@ -188,19 +201,6 @@ pub gain-counted : (s : State) (c : Call) → outcomeOf s c .answer .gain ≡ ga
 unfolding outcomeOf enableOf disableOf disabling changed
 gain-counted s (ask (enable f)) = decided-gain (firstOf (enableOrder s f) 0) s _ _ refl
 gain-counted s (ask (disable k)) = decided-gain (firstOf (disableOrder s k) 0) s 0 _ (sym (gain-same (s .header .containers) (s .storage .tags)))
-
--- how many (tag, container) pairs are stored: the sizes of the sets
-unfoldable pub totalOf : ℕ → List ℕ → ℕ
-totalOf zero ws = 0
-totalOf (suc n) ws = sizeOf (setAt ws n) + totalOf n ws
-
--- where no set loses a tag, the gain is what the total grows by
-gain-total : (n : ℕ) (before after : List ℕ) → ((c : ℕ) → c < n → subsetOf (setAt before c) (setAt after c) ≡ true)
-    → totalOf n before + gainOf n before after ≡ totalOf n after
-unfolding totalOf gainOf
-gain-total zero before after p = refl
-gain-total (suc n) before after p =
-    omega (arith, size-subset (setAt before n) (setAt after n) (p n (omega arith)), gain-total n before after (λ c l. p c (omega (arith, l))))
 
 -- after an event of which the general sentence holds no set has lost a tag
 sentence-grows : (s s' : State) → Sentence s s' → (c : ℕ) → c < s .header .containers → subsetOf (setAt (s .storage .tags) c) (setAt (s' .storage .tags) c) ≡ true

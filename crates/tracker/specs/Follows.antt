@@ -12,16 +12,16 @@ use borrow.Table.Steps.{cases}
 use borrow.Author.Tests.{eqb-true, eq-eqb}
 use Rattle.truth.specs.Truth.{and-iff, lt-iff}
 use Rattle.model.specs.declared.Flow.{Flow}
-use Rattle.model.specs.Model.{_∈_, Event, enable, disable, History, empty, _▸_, without, enabled, edgesOf, Flows, greatest, isEnabled, joins, joined, acceptedFrom}
+use Rattle.model.specs.Model.{_∈_, Event, enable, disable, History, empty, _▸_, without, enabled, edgesOf, Flows, greatest, joins, joined, acceptedFrom}
 use Rattle.model.specs.Closure.{Within, reached-inside}
-use Rattle.model.specs.Histories.{flows-empty, flows-next, MayEnable, enable-joins, disable-joins, joins-added, not-joins-same}
+use Rattle.model.specs.Histories.{flows-empty, flows-next, MayEnable, enable-joins, disable-joins-flow, joins-added, not-joins-same}
 use Rattle.tagset.specs.Set.{has}
-use Rattle.state.specs.State.{Storage, State, badSize, setAt, flowsOf}
-use Rattle.state.specs.IsValid.{Usable}
+use Rattle.state.specs.State.{Storage, State, setAt, flowsOf}
+use Rattle.state.specs.IsValid.{IsSized, Usable}
 use Rattle.tracker.specs.Outcome.{started, startOf, Call, ask, outcomeOf, eventsOf, after, configurationOf}
-use Rattle.tracker.specs.Refusals.{call-refused, start-accepted}
+use Rattle.tracker.specs.Refusals.{call-refused}
 use Rattle.tracker.specs.Stays.{Enables, usable-count, started-has, start-usable, flows-within}
-use Rattle.tracker.specs.Steps.{enable-accepted, disable-accepted, start-leaves, event-leaves-usable, Sentence, enable-sentence, disable-sentence, enable-flows, disable-flows}
+use Rattle.tracker.specs.Steps.{start-accepted, enable-accepted, disable-accepted, start-leaves, event-leaves-usable, Sentence, enable-sentence, disable-sentence, enable-flows, disable-flows}
 use Rattle.tracker.specs.Effects.{event-containers}
 
 -- the state is what the history makes of n containers
@@ -38,13 +38,13 @@ unfolding configurationOf
 configuration-has s c t = simp (and-iff, lt-iff) Iff·rfl
 
 -- a started tracker follows the empty history
-pub start-follows : (n : ℕ) (lent : Storage) → badSize n lent ≡ false → Follows n empty (started n lent)
+pub start-follows : (n : ℕ) (lent : Storage) → IsSized n lent → Follows n empty (started n lent)
 unfolding started enabled greatest flowsOf
-start-follows n lent b =
-    record { size = refl; usable = start-usable n lent b; same-flows = refl; same-greatest = refl; sets = λ c t. (fore c t, back c t) }
+start-follows n lent z =
+    record { size = refl; usable = start-usable n lent z; same-flows = refl; same-greatest = refl; sets = λ c t. (fore c t, back c t) }
   where
     stored : (c t : ℕ) → c < n → has (setAt (started n lent .storage .tags) c) t ≡ eqb t c
-    stored = started-has n lent b
+    stored = started-has n lent z
 
     fore : (c t : ℕ) → configurationOf (started n lent) c t ≡ true → Flows n empty t c
     fore c t q =
@@ -81,8 +81,10 @@ accepted-joins n h s (enable f) w =
           room = omega (arith, m .room, count);
         }
 accepted-joins n h s (disable k) w = (
-  λ a. disable-joins n h k .1 (sym (ap (isEnabled k) (w .same-flows)) ∙ disable-accepted s k .0 a .1),
-  λ j. disable-accepted s k .1 (w .usable, ap (isEnabled k) (w .same-flows) ∙ disable-joins n h k .0 j),
+  λ a. let r = disable-accepted s k .0 a in disable-joins-flow n h k .1 (r .1, subst (λ (fs : List Flow). r .1 ∈ fs) (w .same-flows) (r .2), r .3),
+  λ j.
+      let r = disable-joins-flow n h k .0 j in
+      disable-accepted s k .1 (w .usable, r .0, subst (λ (fs : List Flow). r .0 ∈ fs) (sym (w .same-flows)) (r .1), r .2),
 )
 
 -- ONE CALL

@@ -1,18 +1,14 @@
 -- A refused call changes nothing, and the refusal answered is the first whose condition holds. Assumes nothing.
 use mathlib.Core.Path.{_≡_, refl, sym, _∙_}
-use mathlib.Core.Bool.{Bool, true, false, _&&_, not}
+use mathlib.Core.Bool.{Bool}
 use mathlib.Core.Logic.{_⊎_, inl, inr, _↔_}
-use mathlib.Core.List.{List, [], _∷_}
+use mathlib.Core.List.{List}
 use Prim.Native.Nat.{ℕ, zero, suc}
 use native.Mathlib.Nat.{suc-ne-zero}
-use lib.Dec.{eqb}
-use borrow.Table.Steps.{cases}
-use borrow.Author.Tests.{eqb-false, not-true}
-use Rattle.truth.specs.Truth.{and-both}
 use Rattle.refusal.specs.Order.{firstOf, NoneHolds, IsFirst, first-is, first-none, first-cases}
 use Rattle.model.specs.Model.{enable, disable}
-use Rattle.state.specs.State.{Storage, State, badSize}
-use Rattle.tracker.specs.Outcome.{decided, noHeader, startOrder, started, startOf, enableOrder, enableOf, disableOrder, disableOf, Call, ask, outcomeOf, orderOf}
+use Rattle.state.specs.State.{Storage, State}
+use Rattle.tracker.specs.Outcome.{decided, noHeader, startOrder, started, startOf, enableOf, disableOf, Call, ask, outcomeOf, orderOf}
 
 -- a number is answered exactly if it stands beside the first condition that holds
 pub first-number : (cs : List (Bool × ℕ)) (k : ℕ) → (firstOf cs 0 ≡ suc k) ↔ IsFirst cs (suc k)
@@ -67,37 +63,3 @@ start-refused n lent k = decided-refused (firstOf (startOrder n lent) 0) (record
 
 pub call-refused : (s : State) (c : Call) (k : ℕ) → outcomeOf s c .answer .refusal ≡ suc k → (outcomeOf s c .state ≡ s) × (outcomeOf s c .answer .gain ≡ 0)
 call-refused s c k = let w = outcome-decided s c in rw (w .2) (decided-refused (firstOf (orderOf s c) 0) s (w .0) (w .1) k)
-
--- ACCEPTED exactly if no condition of the order holds
-
--- no number of the list is 0
-unfoldable pub numbered : List (Bool × ℕ) → Bool
-numbered [] = true
-numbered (c ∷ cs) = not (eqb (c .1) 0) && numbered cs
-
-pub first-zero : (cs : List (Bool × ℕ)) → numbered cs ≡ true → (firstOf cs 0 ≡ 0) ↔ NoneHolds cs
-unfolding numbered
-first-zero cs m = (fore cs m, first-none cs 0)
-  where
-    fore : (cs : List (Bool × ℕ)) → numbered cs ≡ true → firstOf cs 0 ≡ 0 → NoneHolds cs
-    fore [] m e = tt
-    fore (c ∷ cs) m e =
-        let p = and-both (not (eqb (c .1) 0)) (numbered cs) m in
-        cases (c .0) (λ b. absurd (eqb-false (c .1) 0 (not-true (eqb (c .1) 0) (p .0)) (rw b at e))) (λ b. (b, fore cs (p .1) (rw b at e)))
-
-orders-numbered : (s : State) (c : Call) → numbered (orderOf s c) ≡ true
-unfolding numbered orderOf enableOrder disableOrder
-orders-numbered s (ask (enable f)) = refl
-orders-numbered s (ask (disable k)) = refl
-
-pub call-accepted : (s : State) (c : Call) → (outcomeOf s c .answer .refusal ≡ 0) ↔ NoneHolds (orderOf s c)
-call-accepted s c =
-    let w = outcome-decided s c in
-    rw (w .2, decided-number (firstOf (orderOf s c) 0) s (w .0) (w .1)) (first-zero (orderOf s c) (orders-numbered s c))
-
-pub start-accepted : (n : ℕ) (lent : Storage) → (startOf n lent .answer .refusal ≡ 0) ↔ (badSize n lent ≡ false)
-unfolding startOf
-start-accepted n lent =
-    let r = first-zero (startOrder n lent) (unfold startOrder numbered in refl) in
-    rw (decided-number (firstOf (startOrder n lent) 0) (record { header = noHeader; storage = lent }) 0 (started n lent))
-    (λ e. unfold startOrder in r .0 e .0, λ b. r .1 (unfold startOrder in (b, tt)))

@@ -17,9 +17,9 @@ use Rattle.model.specs.Closure.{Within, reaches-sound, reaches-complete}
 use Rattle.model.specs.Standing.{without-part, edge-of, of-edge, within-flows}
 use Rattle.tagset.specs.Set.{has, emptySet, singleOf}
 use Rattle.tagset.specs.Laws.{empty-has, single-has}
-use Rattle.state.specs.State.{Storage, State, badSize, setAt, flowsOf, withFlows}
+use Rattle.state.specs.State.{Storage, State, setAt, flowsOf, withFlows}
 use Rattle.state.specs.Layout.{flows-count, set-written, sets-length, front-length, front-at, flows-length, flows-taken, flows-unused}
-use Rattle.state.specs.IsValid.{IsSized, sized, Rising, unused-iff, ProperEnds, IsValid, Usable}
+use Rattle.state.specs.IsValid.{IsSized, Rising, unused-iff, ProperEnds, IsValid, Usable}
 use Rattle.tracker.specs.Outcome.{started, propagated, changed, enabling, disabling}
 use Rattle.tracker.specs.Propagation.{propagated-has}
 
@@ -234,14 +234,14 @@ zeros-has m ws k t h =
     rw (at (4 * k) (omega arith), at (4 * k + 1) (omega arith), at (4 * k + 2) (omega arith), at (4 * k + 3) (omega arith)) (empty-has t)
 
 -- after a start that no refusal meets each container has its own tag alone
-pub started-has : (n : ℕ) (lent : Storage) → badSize n lent ≡ false → (c t : ℕ) → c < n → has (setAt (started n lent .storage .tags) c) t ≡ eqb t c
+pub started-has : (n : ℕ) (lent : Storage) → IsSized n lent → (c t : ℕ) → c < n → has (setAt (started n lent .storage .tags) c) t ≡ eqb t c
 unfolding started
-started-has n lent e c t l = set-written n singleOf (lent .tags) c t l ∙ single-has c t (omega (arith, sized n lent .0 e .most))
+started-has n lent z c t l = set-written n singleOf (lent .tags) c t l ∙ single-has c t (omega (arith, z .most))
 
 -- a start that no refusal meets makes a usable state
-pub start-usable : (n : ℕ) (lent : Storage) → badSize n lent ≡ false → Usable (started n lent)
+pub start-usable : (n : ℕ) (lent : Storage) → IsSized n lent → Usable (started n lent)
 unfolding started flowsOf Rising edgesOf
-start-usable n lent e =
+start-usable n lent z =
     record {
       sized =
           record {
@@ -261,15 +261,11 @@ start-usable n lent e =
             rising = tt;
             not-past = λ f i. absurd (List·Memᴰ·not-nil i);
             ends = λ f i. absurd (List·Memᴰ·not-nil i);
-            known-tags = λ c t l h. omega (arith, eqb-true t c (sym (started-has n lent e c t l) ∙ h));
+            known-tags = λ c t l h. omega (arith, eqb-true t c (sym (started-has n lent z c t l) ∙ h));
             known-policies = λ k t l h. absurd (false≢true (sym (zeros-has (16 * n) (lent .policies) k t (omega arith)) ∙ h));
-            own = λ c l. started-has n lent e c c l ∙ eq-eqb c c refl;
+            own = λ c l. started-has n lent z c c l ∙ eq-eqb c c refl;
             carried = λ a b i. absurd (List·Memᴰ·not-nil i);
             unused-flows = unused-iff 512 0 (withFlows [] (lent .flows)) .0 (flows-unused [] (lent .flows) (omega arith));
             unused-policies = λ i l h. front-at (16 * n) 0 (lent .policies) i 0 l;
           };
     }
-  where
-    -- the storage is long enough
-    z : IsSized n lent
-    z = sized n lent .0 e

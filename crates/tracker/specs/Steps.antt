@@ -8,48 +8,42 @@ use Prim.Native.Nat.{ℕ, _*_, _<_}
 use native.Mathlib.Omega.{arith}
 use lib.Dec.{eqb}
 use lib.ListN.{length, getD}
-use Rattle.truth.specs.Truth.{not-not-iff, not-le-iff, ne-iff}
-use Rattle.refusal.specs.Order.{firstOf, NoneHolds}
+use Rattle.refusal.specs.Order.{firstOf}
 use Rattle.model.specs.declared.Flow.{Flow}
-use Rattle.model.specs.Model.{_∈_, Event, enable, disable, without, edgesOf, isEnabled}
+use Rattle.model.specs.Model.{_∈_, Event, enable, disable, without, edgesOf}
 use Rattle.model.specs.Closure.{Within, reaches-sound, reaches-complete}
 use Rattle.model.specs.Standing.{without-part}
 use Rattle.tagset.specs.Set.{has}
 use Rattle.state.specs.State.{Storage, State, setAt, flowsOf, noFlow}
 use Rattle.state.specs.Layout.{front-at}
-use Rattle.state.specs.IsValid.{Usable, usable}
-use Rattle.tracker.specs.Outcome.{noHeader, startOrder, started, startOf, propagated, changed, enabling, disabling, enableOrder, enableOf, disableOrder, disableOf, ask, outcomeOf, orderOf}
-use Rattle.tracker.specs.Refusals.{decided-done, call-accepted, start-accepted}
+use Rattle.state.specs.IsValid.{IsSized, Usable}
+use Rattle.tracker.specs.Outcome.{noHeader, startOrder, started, startOf, propagated, changed, enabling, disabling, enableOrder, enableOf, disableOrder, disableOf, ask, outcomeOf}
+use Rattle.tracker.specs.Refusals.{decided-done}
+use Rattle.tracker.specs.Table.{StartAnswers, start-answers, EnableAnswers, enable-answers, DisableAnswers, disable-answers, accepted}
 use Rattle.tracker.specs.Propagation.{propagated-has}
 use Rattle.tracker.specs.Stays.{Enables, changed-flows, started-has, start-usable, enable-usable, disable-usable, flows-within, settled}
 
--- WHICH CALLS ARE ACCEPTED
+-- WHICH CALLS ARE ACCEPTED: the rows of the table with number 0
 
--- no condition of an enable's order holds
+pub start-accepted : (n : ℕ) (lent : Storage) → (startOf n lent .answer .refusal ≡ 0) ↔ IsSized n lent
+start-accepted n lent = (λ a. row (start-answers n lent 0 .0 a), λ z. start-answers n lent 0 .1 (accepted z))
+  where
+    row : StartAnswers n lent 0 → IsSized n lent
+    row (accepted z) = z
+
 pub enable-accepted : (s : State) (f : Flow) → (outcomeOf s (ask (enable f)) .answer .refusal ≡ 0) ↔ Enables s f
-unfolding orderOf enableOrder
-enable-accepted s f = (λ a. fore (call-accepted s (ask (enable f)) .0 a), λ e. call-accepted s (ask (enable f)) .1 (back e))
+unfolding outcomeOf
+enable-accepted s f = (λ a. row (enable-answers s f 0 .0 a), λ e. enable-answers s f 0 .1 (accepted e))
   where
-    fore : NoneHolds (enableOrder s f) → Enables s f
-    fore =
-        simp (not-not-iff, not-le-iff, ne-iff)
-        (λ (b, (v, (x, (y, (d, (g, (r, z))))))). record { before = usable s .0 (b, v); proper = (x, y, d); above = g; room = r })
+    row : EnableAnswers s f 0 → Enables s f
+    row (accepted e) = e
 
-    back : Enables s f → NoneHolds (enableOrder s f)
-    back e =
-        let u = usable s .1 (e .before) in
-        simp (not-not-iff, not-le-iff, ne-iff) (u .0, (u .1, (e .proper .0, (e .proper .1, (e .proper .2, (e .above, (e .room, tt)))))))
-
--- no condition of a disable's order holds
-pub disable-accepted : (s : State) (k : ℕ) → (outcomeOf s (ask (disable k)) .answer .refusal ≡ 0) ↔ (Usable s × (isEnabled k (flowsOf s) ≡ true))
-unfolding orderOf disableOrder
-disable-accepted s k = (λ a. fore (call-accepted s (ask (disable k)) .0 a), λ e. call-accepted s (ask (disable k)) .1 (back e))
+pub disable-accepted : (s : State) (k : ℕ) → (outcomeOf s (ask (disable k)) .answer .refusal ≡ 0) ↔ (Usable s × (f : Flow) × (f ∈ flowsOf s) × (f .number ≡ k))
+unfolding outcomeOf
+disable-accepted s k = (λ a. row (disable-answers s k 0 .0 a), λ e. disable-answers s k 0 .1 (accepted (e .0) (e .1) (e .2) (e .3)))
   where
-    fore : NoneHolds (disableOrder s k) → Usable s × (isEnabled k (flowsOf s) ≡ true)
-    fore = simp not-not-iff (λ (b, (v, (i, z))). (usable s .0 (b, v), i))
-
-    back : Usable s × (isEnabled k (flowsOf s) ≡ true) → NoneHolds (disableOrder s k)
-    back e = let u = usable s .1 (e .0) in simp not-not-iff (u .0, (u .1, (e .1, tt)))
+    row : DisableAnswers s k 0 → Usable s × (f : Flow) × (f ∈ flowsOf s) × (f .number ≡ k)
+    row (accepted u f m q) = (u, f, m, q)
 
 -- WHAT THEY LEAVE
 
