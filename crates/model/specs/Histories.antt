@@ -1,7 +1,7 @@
 -- Flows and the accepted history in the papers' words. Assumes nothing.
 use mathlib.Core.Path.{_≡_, refl, sym, ap, subst}
 use mathlib.Core.Bool.{Bool, true, false, cond, false≢true}
-use mathlib.Core.Logic.{_⊎_, inl, inr, _↔_, ⊎-elim, Iff·rfl, _≢_}
+use mathlib.Core.Logic.{_⊎_, inl, inr, _↔_, ⊎-elim, _≢_}
 use mathlib.Core.List.{List, [], _∷_, _++_, List·Memᴰ·not-nil, List·Memᴰ·append-cases, List·Memᴰ·eq-of-singleton}
 use Prim.Native.Nat.{ℕ, _≤_, _<_}
 use native.Mathlib.Omega.{arith}
@@ -11,7 +11,7 @@ use Rattle.model.specs.Standing.{enabled-number, number-enabled, without
 use Rattle.truth.specs.Truth.{and-iff, not-iff, lt-iff, ne-iff}
 use Rattle.model.specs.declared.Flow.{Flow}
 use Rattle.model.specs.Model.{_∈_, Event, enable, disable, History, empty, _▸_, without, enabled, edges, edgesOf, Enabled*, Flows, own, next}
-use Rattle.model.specs.Model.{greatest, isEnabled, joins, joined, acceptedFrom, accepted}
+use Rattle.model.specs.Model.{greatest, joins, joined, acceptedFrom, accepted}
 
 -- FLOWS: 'for the empty history it is the start', Enabled* for one event, and Flows · Enabled* for one more
 
@@ -85,15 +85,9 @@ enable-joins n h f =
     )
 
 -- a disable joins exactly if a flow with its number is enabled
-pub disable-joins : (n : ℕ) (h : History) (k : ℕ) → (joins n h (disable k) ≡ true) ↔ (isEnabled k (enabled h) ≡ true)
+pub disable-joins : (n : ℕ) (h : History) (k : ℕ) → (joins n h (disable k) ≡ true) ↔ ((f : Flow) × (f ∈ enabled h) × (f .number ≡ k))
 unfolding joins
-disable-joins n h k = Iff·rfl
-
-pub disable-joins-flow : (n : ℕ) (h : History) (k : ℕ) → (joins n h (disable k) ≡ true) ↔ ((f : Flow) × (f ∈ enabled h) × (f .number ≡ k))
-disable-joins-flow n h k = (
-  λ j. enabled-number k (enabled h) (disable-joins n h k .0 j),
-  λ w. disable-joins n h k .1 (number-enabled k (enabled h) (w .1) (w .2)),
-)
+disable-joins n h k = (enabled-number k (enabled h), λ w. number-enabled k (enabled h) (w .1) (w .2))
 
 -- an event of a history is the last one or an earlier one
 occurs-cases : {e e' : Event} {h : History} → Occurs e (h ▸ e') → (e ≡ e') ⊎ Occurs e h

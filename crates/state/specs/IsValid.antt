@@ -1,7 +1,7 @@
 -- What `badSize` and `validOf` test, in the paper's words: each test passes exactly where its sentence holds, and `simp` puts them together.
 -- Assumes nothing.
 use mathlib.Core.Path.{_≡_, refl, sym, ap, _∙_}
-use mathlib.Core.Bool.{Bool, true, false, false≢true}
+use mathlib.Core.Bool.{Bool, true, false}
 use mathlib.Core.List.{List, [], _∷_, List·Memᴰ·head, List·Memᴰ·tail}
 use mathlib.Core.Logic.{_↔_, _≢_}
 use Prim.Native.Nat.{ℕ, zero, suc, _+_, _-_, _*_, _/_, _%_, _≤_, _<_}
@@ -13,17 +13,12 @@ use Rattle.model.specs.declared.Flow.{Flow}
 use Rattle.model.specs.Model.{_∈_, edgesOf}
 use Rattle.tagset.specs.declared.TagSet.{TagSet}
 use Rattle.tagset.specs.Below.{all-at, all-make}
-use Rattle.tagset.specs.Laws.{subset-has, subset-of-has, not-exceeds, not-exceeds-of-has}
-use Rattle.tagset.specs.Set.{has, implies, allBelow, subsetOf, exceedsOf}
+use Rattle.tagset.specs.Laws.{implies-iff, subset-has, subset-of-has, not-exceeds, not-exceeds-of-has}
+use Rattle.tagset.specs.Set.{has, allBelow, subsetOf, exceedsOf}
 use Rattle.state.specs.State.{Storage, State, badSize, setAt, flowsOf, noFlow}
 use Rattle.state.specs.Valid.{allOf, risingFrom, inLimits, countsInLimits, numbersRise, endsProper, tagsKnown, ownTags, setsCarried, isNoFlow, unusedZero, validOf}
 
 -- Tests, each with what it says
-
--- the second test passes where the first does
-implies-iff : (a b : Bool) → (implies a b ≡ true) ↔ (a ≡ true → b ≡ true)
-implies-iff true b = (λ e h. e, λ f. f refl)
-implies-iff false b = (λ e h. absurd (false≢true h), λ f. refl)
 
 -- every number below n passes
 all-below-iff : (n : ℕ) (f : ℕ → Bool) → (allBelow n f ≡ true) ↔ ((k : ℕ) → k < n → f k ≡ true)
@@ -191,10 +186,3 @@ valid s =
 pub record Usable (s : State) : Type 0 where
   pub sized : IsSized (s .header .containers) (s .storage)
   pub valid : IsValid s
-
--- the two tests pass exactly on these
-pub usable : (s : State) → ((badSize (s .header .containers) (s .storage) ≡ false) × (validOf s ≡ true)) ↔ Usable s
-usable s = (
-  λ p. record { sized = sized (s .header .containers) (s .storage) .0 (p .0); valid = valid s .0 (p .1) },
-  λ u. (sized (s .header .containers) (s .storage) .1 (u .sized), valid s .1 (u .valid)),
-)

@@ -2,6 +2,7 @@
 -- Assumes nothing.
 use mathlib.Core.Path.{_≡_, refl, sym, ap, ap₂, _∙_}
 use mathlib.Core.Bool.{Bool, true, false, _&&_, _||_, not, Bool·beq, and-true, and-false, and-comm, false≢true}
+use mathlib.Core.Logic.{_↔_, ⊎-elim}
 use mathlib.Core.List.{List, [], _∷_}
 use Prim.Native.Nat.{ℕ, suc, _+_, _*_, _-_, _/_, _%_, _^_, _≤_, _<_, min}
 use native.Mathlib.Nat.{sub-zero, mod-lt, min-le-right, lt-of-lt-of-le, not-le-of-lt, zero-add}
@@ -15,7 +16,7 @@ use lib.Seq.{set-out, getD-set-other, ext-getD}
 use borrow.Table.Steps.{cases}
 use borrow.Author.Tests.{eqb-true, eqb-false, eq-eqb, ne-eqb, ltb-true, ltb-false, leb-true, leb-false, lt-ltb, le-ltb, le-leb, not-true}
 use Rattle.tagset.specs.declared.TagSet.{TagSet}
-use Rattle.truth.specs.Truth.{iff, and-both}
+use Rattle.truth.specs.Truth.{iff, and-both, or-either, left-or, right-or}
 use Rattle.tagset.specs.Below.{count-cong, count-add, count-sum, count-none, none-counted, count-at, count-le, all-at, all-make, any-not-all, any-find, any-make}
 use Rattle.tagset.specs.Bit.{bit-zero, bit-or, bit-and, bit-pow, bit-ones, ones-count}
 use Rattle.tagset.specs.Set.{one, countBelow, bitAt, wordAt, hasW, has, emptySet, singleOf, lowOnes, belowOf, wordwise, unionOf, intersectionOf, implies, subsetOf, sameOf, exceedsOf, sizeOf, IsWords}
@@ -110,6 +111,11 @@ below-has n t = by-tag (λ x. has (belowOf n) x ≡ ltb x n && ltb x 256) (λ q 
 
 -- Order
 
+-- the second test passes where the first does
+pub implies-iff : (a b : Bool) → (implies a b ≡ true) ↔ (a ≡ true → b ≡ true)
+implies-iff true b = (λ e h. e, λ f. f refl)
+implies-iff false b = (λ e h. absurd (false≢true h), λ f. refl)
+
 -- a tag of a subset is in the set
 pub subset-has : (a b : TagSet) → subsetOf a b ≡ true → (t : ℕ) → has a t ≡ true → has b t ≡ true
 unfolding subsetOf
@@ -118,11 +124,7 @@ subset-has a b e t h = sym (ap (λ (x : Bool). implies x (has b t)) h) ∙ all-a
 -- a set each of whose tags is in the other is a subset
 pub subset-of-has : (a b : TagSet) → ((t : ℕ) → has a t ≡ true → has b t ≡ true) → subsetOf a b ≡ true
 unfolding subsetOf
-subset-of-has a b h = all-make 256 (λ t. implies (has a t) (has b t)) (λ t l. implied (has a t) (has b t) (h t))
-  where
-    implied : (x y : Bool) → (x ≡ true → y ≡ true) → implies x y ≡ true
-    implied true y f = f refl
-    implied false y f = refl
+subset-of-has a b h = all-make 256 (λ t. implies (has a t) (has b t)) (λ t l. implies-iff (has a t) (has b t) .1 (h t))
 
 -- what is and is not implied
 lacks : (x y : Bool) → x && not y ≡ not (implies x y)
@@ -148,31 +150,19 @@ subset-refl a = subset-of-has a a (λ t h. h)
 pub subset-trans : (a b c : TagSet) → subsetOf a b ≡ true → subsetOf b c ≡ true → subsetOf a c ≡ true
 subset-trans a b c p q = subset-of-has a c (λ t h. subset-has b c q t (subset-has a b p t h))
 
--- a disjunction from either side, and by cases
-or-left : (x y : Bool) → x ≡ true → x || y ≡ true
-or-left x y e = ap (λ (z : Bool). z || y) e
-
-or-right : (x y : Bool) → y ≡ true → x || y ≡ true
-or-right true y e = refl
-or-right false y e = e
-
-or-cases : (x y z : Bool) → (x ≡ true → z ≡ true) → (y ≡ true → z ≡ true) → x || y ≡ true → z ≡ true
-or-cases true y z f g e = f refl
-or-cases false y z f g e = g e
-
 -- the first set is a subset of a union
 pub union-upper-left : (a b : TagSet) → subsetOf a (unionOf a b) ≡ true
-union-upper-left a b = subset-of-has a (unionOf a b) (λ t h. union-has a b t ∙ or-left (has a t) (has b t) h)
+union-upper-left a b = subset-of-has a (unionOf a b) (λ t h. union-has a b t ∙ left-or (has b t) h)
 
 -- and so is the second
 pub union-upper-right : (a b : TagSet) → subsetOf b (unionOf a b) ≡ true
-union-upper-right a b = subset-of-has b (unionOf a b) (λ t h. union-has a b t ∙ or-right (has a t) (has b t) h)
+union-upper-right a b = subset-of-has b (unionOf a b) (λ t h. union-has a b t ∙ right-or (has a t) h)
 
 -- a union is a subset of every set that both sets are subsets of
 pub union-least : (a b c : TagSet) → subsetOf a c ≡ true → subsetOf b c ≡ true → subsetOf (unionOf a b) c ≡ true
 union-least a b c p q =
     subset-of-has (unionOf a b) c
-    (λ t h. or-cases (has a t) (has b t) (has c t) (subset-has a c p t) (subset-has b c q t) (sym (union-has a b t) ∙ h))
+    (λ t h. ⊎-elim (subset-has a c p t) (subset-has b c q t) (or-either (has a t) (has b t) (sym (union-has a b t) ∙ h)))
 
 -- an intersection is a subset of the first set
 pub intersection-lower-left : (a b : TagSet) → subsetOf (intersectionOf a b) a ≡ true

@@ -13,9 +13,11 @@ use lib.ListN.{length, getD}
 use Rattle.truth.specs.Truth.{iff}
 use Rattle.refusal.specs.Order.{IsFirst}
 use Rattle.model.specs.declared.Flow.{Flow}
-use Rattle.model.specs.Model.{_∈_, flow, Event, enable, disable, History, empty, enabled, Enabled, Flows, Execution, configuration, without, greatest, joins, accepted}
+use Rattle.model.specs.Model.{_∈_, flow, Event, enable, disable, History, empty, _▸_, enabled, edgesOf, Enabled, Enabled*, Flows, Execution, configuration, without, greatest, joins, accepted}
+use Rattle.model.specs.Reach.{reaches}
+use Rattle.model.specs.Closure.{Within, reaches-enabled}
 use Rattle.model.specs.Standing.{Standing, standing, without-part, enabled-flow}
-use Rattle.model.specs.Histories.{accepted-each, accepted-inside, Accepted, Occurs, MayEnable, enable-joins, disable-joins-flow, numbers-rise}
+use Rattle.model.specs.Histories.{flows-empty, flows-one, flows-next, accepted-each, accepted-inside, Accepted, Occurs, MayEnable, enable-joins, disable-joins, numbers-rise}
 use Rattle.model.specs.Propositions.{exact-at, proposition-1, proposition-2}
 use Rattle.tagset.specs.Set.{has, bitAt}
 use Rattle.state.specs.State.{Storage, State, badSize, setAt, flowsOf}
@@ -201,7 +203,7 @@ pub enable-joins-exactly-if : (n : ℕ) (h : History) (f : Flow) → (joins n h 
 enable-joins-exactly-if = enable-joins
 
 pub disable-joins-exactly-if : (n : ℕ) (h : History) (k : ℕ) → (joins n h (disable k) ≡ true) ↔ ((f : Flow) × (f ∈ enabled h) × (f .number ≡ k))
-disable-joins-exactly-if = disable-joins-flow
+disable-joins-exactly-if = disable-joins
 
 -- each event of an accepted history joined what was accepted before; and no number enabled in it is 0 or passes its greatest
 pub each-event-joined : (n : ℕ) (es : List Event) → Accepted n (accepted n es)
@@ -216,6 +218,20 @@ enabled-is-standing = standing
 
 pub enabled-is-a-flow : (h : History) (a b : ℕ) → Enabled h a b ↔ ((k : ℕ) × (flow k a b ∈ enabled h))
 enabled-is-a-flow = enabled-flow
+
+-- Enabled* is what propagation computes with, where the enabled flows have their ends below n
+pub closure-is-computed : (n : ℕ) (h : History) → Within n (edgesOf (enabled h)) → (a b : ℕ) → a < n → (reaches n (edgesOf (enabled h)) a b ≡ true) ↔ Enabled* h a b
+closure-is-computed = reaches-enabled
+
+-- Flows is the start for the empty history, Enabled* for one event, and Flows · Enabled* for one more
+pub flows-of-no-event : (n t c : ℕ) → Flows n empty t c ↔ ((t ≡ c) × (c < n))
+flows-of-no-event = flows-empty
+
+pub flows-of-one-event : (n : ℕ) (e : Event) (t c : ℕ) → Flows n (empty ▸ e) t c ↔ ((t < n) × Enabled* (empty ▸ e) t c)
+flows-of-one-event = flows-one
+
+pub flows-of-one-event-more : (n : ℕ) (h : History) (e : Event) (t c : ℕ) → Flows n (h ▸ e) t c ↔ ((a : ℕ) × Flows n h t a × Enabled* (h ▸ e) a c)
+flows-of-one-event-more = flows-next
 
 -- Proposition 1 (soundness): where an execution of a history has put a tag, Flows relates the two
 pub no-flow-is-missed : (n : ℕ) {h : History} (x : Execution h) (c t : ℕ) → configuration n x c t ≡ true → Flows n h t c

@@ -14,7 +14,7 @@ use Rattle.truth.specs.Truth.{and-iff, lt-iff}
 use Rattle.model.specs.declared.Flow.{Flow}
 use Rattle.model.specs.Model.{_∈_, Event, enable, disable, History, empty, _▸_, without, enabled, edgesOf, Flows, greatest, joins, joined, acceptedFrom}
 use Rattle.model.specs.Closure.{Within, reached-inside}
-use Rattle.model.specs.Histories.{flows-empty, flows-next, MayEnable, enable-joins, disable-joins-flow, joins-added, not-joins-same}
+use Rattle.model.specs.Histories.{flows-empty, flows-next, MayEnable, enable-joins, disable-joins, joins-added, not-joins-same}
 use Rattle.tagset.specs.Set.{has}
 use Rattle.state.specs.State.{Storage, State, setAt, flowsOf}
 use Rattle.state.specs.IsValid.{IsSized, Usable}
@@ -81,9 +81,9 @@ accepted-joins n h s (enable f) w =
           room = omega (arith, m .room, count);
         }
 accepted-joins n h s (disable k) w = (
-  λ a. let r = disable-accepted s k .0 a in disable-joins-flow n h k .1 (r .1, subst (λ (fs : List Flow). r .1 ∈ fs) (w .same-flows) (r .2), r .3),
+  λ a. let r = disable-accepted s k .0 a in disable-joins n h k .1 (r .1, subst (λ (fs : List Flow). r .1 ∈ fs) (w .same-flows) (r .2), r .3),
   λ j.
-      let r = disable-joins-flow n h k .0 j in
+      let r = disable-joins n h k .0 j in
       disable-accepted s k .1 (w .usable, r .0, subst (λ (fs : List Flow). r .0 ∈ fs) (sym (w .same-flows)) (r .1), r .2),
 )
 

@@ -4,7 +4,7 @@ use mathlib.Core.Bool.{Bool, true, false, _&&_, _||_, not, false≢true}
 use mathlib.Core.Logic.{_⊎_, inl, inr, _↔_, _≢_, ⊎-elim}
 use Prim.Native.Nat.{ℕ, _≤_, _<_}
 use lib.Dec.{leb, ltb, eqb}
-use borrow.Author.Tests.{ltb-true, ltb-false, leb-true, leb-false, eqb-true, eqb-false, lt-ltb, le-ltb, le-leb, lt-leb, eq-eqb, ne-eqb, not-true, not-false}
+use borrow.Author.Tests.{ltb-true, ltb-false, leb-true, eqb-true, eqb-false, lt-ltb, le-ltb, le-leb, eq-eqb, ne-eqb, not-true}
 
 -- tests that pass together are the same
 pub iff : (p q : Bool) → (p ≡ true → q ≡ true) → (q ≡ true → p ≡ true) → p ≡ q
@@ -58,15 +58,9 @@ neither-iff false b = (λ e. (refl, e), λ p. p .1)
 pub not-iff : (a : Bool) → (not a ≡ true) ↔ (a ≡ false)
 not-iff a = (not-true a, λ e. ap not e)
 
-pub not-not-iff : (a : Bool) → (not a ≡ false) ↔ (a ≡ true)
-not-not-iff a = (not-false a, λ e. ap not e)
-
--- a number is at most another, or it is not
+-- a number is at most another
 pub le-iff : (a b : ℕ) → (leb a b ≡ true) ↔ (a ≤ b)
 le-iff a b = (leb-true a b, le-leb a b)
-
-pub not-le-iff : (a b : ℕ) → (leb a b ≡ false) ↔ (b < a)
-not-le-iff a b = (leb-false a b, lt-leb a b)
 
 -- a number is below another, or it is not
 pub lt-iff : (a b : ℕ) → (ltb a b ≡ true) ↔ (a < b)
