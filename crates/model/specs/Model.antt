@@ -39,7 +39,7 @@ unfoldable pub keep : (Flow → Bool) → List Flow → List Flow
 keep p [] = []
 keep p (f ∷ fs) = let rest = keep p fs in cond (p f) (f ∷ rest) rest
 
--- the flows but for the one with number k
+-- the flows but for the one with number k; of an accepted history no two have one number
 unfoldable pub without : ℕ → List Flow → List Flow
 without k fs = keep (λ f. not (eqb (f .number) k)) fs
 

@@ -90,7 +90,7 @@ start-beyond n lent = go (startOf n lent .answer .refusal) refl
 
 -- CALLS
 
--- a changed state has the same n, and is like the one before past the lengths in use
+-- a changed state is like the one before past the lengths in use
 changed-beyond : (s : State) (fs : List Flow) (greatest : ℕ) (tags : List ℕ) → Usable s → length fs ≤ 512 → length tags ≡ length (s .storage .tags)
     → drop (4 * s .header .containers) tags ≡ drop (4 * s .header .containers) (s .storage .tags)
     → SameBeyond (s .header .containers) (changed s fs greatest tags .storage) (s .storage)

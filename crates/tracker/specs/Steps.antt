@@ -1,4 +1,4 @@
--- Accepted calls: which they are, what they leave, and the paper's sentence on the sets after them. Assumes nothing.
+-- Accepted calls: which they are, what they leave, and document 01's sentence on the sets after them. Assumes nothing.
 use mathlib.Core.Path.{_≡_, refl}
 use mathlib.Core.Bool.{true}
 use mathlib.Core.List.{List, [], _∷_, _++_}
@@ -61,7 +61,7 @@ pub disable-leaves : (s : State) (k : ℕ) → outcomeOf s (ask (disable k)) .an
 unfolding outcomeOf disableOf
 disable-leaves s k a = decided-done (firstOf (disableOrder s k) 0) s _ _ a .0
 
--- a usable state
+-- accepted calls leave usable states
 pub start-makes-usable : (n : ℕ) (lent : Storage) → startOf n lent .answer .refusal ≡ 0 → Usable (startOf n lent .state)
 start-makes-usable n lent a = rw (start-leaves n lent a) (start-usable n lent (start-accepted n lent .0 a))
 
