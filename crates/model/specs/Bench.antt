@@ -91,6 +91,17 @@ reordered =
     let z = event (event (exec y (flow 3 1 2) second 1 2 first) (disable 1)) (disable 3) in
     event (exec (event z (enable (flow 4 3 4))) (flow 4 3 4) first 3 4 first) (disable 4)
 
+-- nothing is executed: each container keeps its own tag alone
+unfoldable pub quiet : Execution observed
+unfolding observed
+quiet =
+    let x = event (event (event (event begin (enable (flow 1 2 3))) (enable (flow 2 0 1))) (disable 2)) (enable (flow 3 1 2)) in
+    event (event (event (event x (disable 1)) (disable 3)) (enable (flow 4 3 4))) (disable 4)
+
+pub quiet-leaves : configuration 5 quiet ≡ initial 5
+unfolding quiet configuration
+quiet-leaves = refl
+
 -- the last row of table 1a, a row for each container
 pub concrete-leaves :
     matrix 5 (configuration 5 concrete)
@@ -108,3 +119,14 @@ pub reordered-leaves :
     ∷ (I ∷ I ∷ I ∷ O ∷ O ∷ []) ∷ (O ∷ O ∷ I ∷ I ∷ O ∷ []) ∷ (O ∷ O ∷ I ∷ I ∷ I ∷ []) ∷ []
 unfolding reordered tabulate matrix configuration initial carry
 reordered-leaves = refl
+
+-- a flow that stays enabled may be executed after another is disabled: 0 to 1 before, 1 to 2 after
+unfoldable pub late : Execution (empty ▸ enable (flow 1 0 1) ▸ enable (flow 2 1 2) ▸ disable 1)
+unfolding keep without enabled
+late =
+    let x = exec (event (event begin (enable (flow 1 0 1))) (enable (flow 2 1 2))) (flow 1 0 1) first 0 1 first in
+    exec (event x (disable 1)) (flow 2 1 2) first 1 2 first
+
+pub late-leaves : matrix 3 (configuration 3 late) ≡ (I ∷ O ∷ O ∷ []) ∷ (I ∷ I ∷ O ∷ []) ∷ (I ∷ I ∷ I ∷ []) ∷ []
+unfolding late tabulate matrix configuration initial carry
+late-leaves = refl

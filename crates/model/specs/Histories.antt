@@ -53,6 +53,15 @@ accepted-from n (e ∷ es) h a = accepted-from n es (joined n h e) (joined-cases
 pub accepted-each : (n : ℕ) (es : List Event) → Accepted n (accepted n es)
 accepted-each n es = accepted-from n es empty none
 
+-- the accepted history of one event more
+last-joined : (n : ℕ) (es : List Event) (e : Event) (h : History) → acceptedFrom n h (es ++ (e ∷ [])) ≡ joined n (acceptedFrom n h es) e
+unfolding acceptedFrom
+last-joined n [] e h = refl
+last-joined n (x ∷ es) e h = last-joined n es e (joined n h x)
+
+pub accepted-last : (n : ℕ) (es : List Event) (e : Event) → accepted n (es ++ (e ∷ [])) ≡ joined n (accepted n es) e
+accepted-last n es e = last-joined n es e empty
+
 -- what joins is added, what does not changes nothing
 pub joins-added : (n : ℕ) (h : History) (e : Event) → joins n h e ≡ true → joined n h e ≡ h ▸ e
 unfolding joined

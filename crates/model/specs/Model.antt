@@ -51,7 +51,7 @@ enabled (h ▸ disable k) = without k (enabled h)
 
 -- FLOWS OF DOCUMENT 000
 
--- the ways in which a flow carries data, each a container and the one after it
+-- the ways in which a flow carries data, each its source and its destination
 abbrev pub edges : Flow → List (ℕ × ℕ)
 edges f = (f .from, f .to) ∷ []
 

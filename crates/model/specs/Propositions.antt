@@ -13,11 +13,12 @@ use lib.Dec.{ltb, eqb}
 use borrow.Table.Steps.{cases}
 use borrow.Author.Tests.{ltb-true, lt-ltb, eqb-true, eq-eqb}
 use Rattle.truth.specs.Truth.{iff, and-both, both-and, left-or, right-or, or-and-iff}
-use Rattle.model.specs.Model.{Event, History, empty, _▸_, edgesOf, edgesOf, enabled, Enabled, Enabled*, Flows, own, next}
+use Rattle.model.specs.declared.Flow.{Flow}
+use Rattle.model.specs.Model.{_∈_, Event, History, empty, _▸_, edgesOf, edgesOf, enabled, Enabled, Enabled*, Flows, own, next}
 use Rattle.model.specs.Reach.{reaches}
 use Rattle.model.specs.Closure.{Within, reaches-sound, reaches-complete}
 use Rattle.model.specs.Histories.{Inside, flows-next, flows-inside}
-use Rattle.model.specs.Standing.{edge-of, of-edge}
+use Rattle.model.specs.Standing.{edge-of, of-edge, ends-edge}
 use Rattle.model.specs.Model.{Configuration, initial, carry, Execution, begin, event, exec, configuration}
 
 -- PROPOSITION 1
@@ -225,3 +226,20 @@ exact-at n h i θ tells =
     same : (x : Execution h) → Tells n h (configuration n x) → configuration n x ≡ θ
     same x told =
         fun-ext (λ c. fun-ext (λ t. iff (configuration n x c t) (θ c t) (λ q. tells c t .1 (told c t .0 q)) (λ q. told c t .1 (tells c t .0 q))))
+
+-- WHAT THE STEPS OF AN EXECUTION DO
+
+-- an event changes no set
+pub event-changes-nothing : (n : ℕ) {h : History} (x : Execution h) (e : Event) → configuration n (event x e) ≡ configuration n x
+unfolding configuration
+event-changes-nothing n x e = refl
+
+-- an execution of an enabled flow adds the tags of its one end to those of its other, and changes nothing else
+pub exec-adds : (n : ℕ) {h : History} (x : Execution h) (f : Flow) (i : f ∈ enabled h) (c t : ℕ)
+    → (configuration n (exec x f i (f .from) (f .to) (ends-edge f)) c t ≡ true) ↔ ((configuration n x c t ≡ true) ⊎ ((c ≡ f .to) × (configuration n x (f .from) t ≡ true)))
+unfolding configuration carry
+exec-adds n x f i c t =
+    let r = or-and-iff (configuration n x c t) (eqb c (f .to)) (configuration n x (f .from) t) in (
+      λ q. ⊎-elim (λ p. inl p) (λ p. inr (eqb-true c (f .to) (p .0), p .1)) (r .0 q),
+      λ s. r .1 (⊎-elim (λ p. inl p) (λ p. inr (eq-eqb c (f .to) (p .0), p .1)) s),
+    )

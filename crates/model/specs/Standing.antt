@@ -11,7 +11,7 @@ use lib.Dec.{eqb}
 use borrow.Table.Steps.{cases}
 use borrow.Author.Tests.{eqb-true, eqb-false, eq-eqb}
 use Rattle.model.specs.declared.Flow.{Flow}
-use Rattle.model.specs.Model.{Event, enable, disable, History, empty, _▸_, _∈_, without, keep, enabled, edges, edgesOf, Enabled, flow, isEnabled}
+use Rattle.model.specs.Model.{Event, enable, disable, History, empty, _▸_, _∈_, without, keep, enabled, edges, edgesOf, Enabled, isEnabled}
 use Rattle.model.specs.Closure.{Within}
 
 -- WITHOUT A NUMBER
@@ -116,14 +116,11 @@ pub ends-edge : (f : Flow) → (f .from, f .to) ∈ edges f
 ends-edge f = List·Memᴰ·head refl
 
 -- (a, b) ∈ Enabled exactly if a flow from a to b is enabled
-pub enabled-flow : (h : History) (a b : ℕ) → Enabled h a b ↔ ((k : ℕ) × (flow k a b ∈ enabled h))
-enabled-flow h a b = (fore, λ r. of-edge (enabled h) (r .1) (ends-edge (flow (r .0) a b)))
+pub enabled-flow : (h : History) (a b : ℕ) → Enabled h a b ↔ ((f : Flow) × (f ∈ enabled h) × (f .from ≡ a) × (f .to ≡ b))
+enabled-flow h a b = (fore, λ (f, m, p, q). of-edge (enabled h) m (subst (λ (x : ℕ × ℕ). x ∈ edges f) (λ i. (p i, q i)) (ends-edge f)))
   where
-    fore : Enabled h a b → (k : ℕ) × (flow k a b ∈ enabled h)
-    fore i = let w = edge-of (enabled h) i in let e = edge-ends (w .0) (w .2) in (w .0 .number, same (w .0) (e .0) (e .1) (w .1))
-      where
-        same : (f : Flow) → a ≡ f .from → b ≡ f .to → f ∈ enabled h → flow (f .number) a b ∈ enabled h
-        same f p q m = rw (p, q) m
+    fore : Enabled h a b → (f : Flow) × (f ∈ enabled h) × (f .from ≡ a) × (f .to ≡ b)
+    fore i = let w = edge-of (enabled h) i in let e = edge-ends (w .0) (w .2) in (w .0, w .1, sym (e .0), sym (e .1))
 
 -- where all flows have their ends below n, so have their ways
 pub within-flows : (n : ℕ) (fs : List Flow) → ((f : Flow) → f ∈ fs → (f .from < n) × (f .to < n)) → Within n (edgesOf fs)

@@ -5,7 +5,7 @@ use mathlib.Core.Bool.{Bool, true, false, cond}
 use mathlib.Core.List.{List, [], _∷_, _++_}
 use mathlib.Core.Logic.{_⊎_, inl, inr}
 
--- the answer beside the first condition that holds, or the last answer where none does
+-- the answer beside the first condition that holds, or the other answer where none does
 abbrev pub firstOf {ℓ} : {A : Type ℓ} → List (Bool × A) → A → A
 firstOf [] a = a
 firstOf (c ∷ cs) a = cond (c .0) (c .1) (firstOf cs a)
@@ -34,7 +34,7 @@ module _ {A : Type 0} where
       skip [] n = ap (λ (t : Bool). cond t (h .here .1) (firstOf (h .after) a)) (h .holds)
       skip (b ∷ bs) n = ap (λ (t : Bool). cond t (b .1) (firstOf (bs ++ (h .here ∷ h .after)) a)) (n .0) ∙ skip bs (n .1)
 
-  -- where none holds, the last answer is given
+  -- where none holds, the other answer is given
   pub first-none : (cs : List (Bool × A)) (a : A) → NoneHolds cs → firstOf cs a ≡ a
   first-none [] a n = refl
   first-none (c ∷ cs) a n = ap (λ (t : Bool). cond t (c .1) (firstOf cs a)) (n .0) ∙ first-none cs a (n .1)

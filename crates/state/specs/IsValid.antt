@@ -60,7 +60,7 @@ pub record IsSized (n : ℕ) (lent : Storage) : Type 0 where
   pub most : n ≤ 256
   pub tag-words : 4 * n ≤ length (lent .tags)
   pub policy-words : 16 * n ≤ length (lent .policies)
-  pub count-bytes : n ≤ length (lent .counts)
+  pub count-bytes : n ≤ length (lent .policyCounts)
   pub records : 512 ≤ length (lent .flows)
 
 -- 9 is not answered exactly there
@@ -129,7 +129,7 @@ pub record IsValid (s : State) : Type 0 where
   pub most : s .header .containers ≤ 256
   -- 'counts are at most 512 and 4'
   pub table-count : s .header .count ≤ 512
-  pub policy-counts : (c : ℕ) → c < s .header .containers → getD (s .storage .counts) c 0 ≤ 4
+  pub policy-counts : (c : ℕ) → c < s .header .containers → getD (s .storage .policyCounts) c 0 ≤ 4
   -- 'channel numbers rise strictly from at least 1 and don't pass the greatest'
   pub rising : Rising 0 (flowsOf s)
   pub not-past : (f : Flow) → f ∈ flowsOf s → f .number ≤ s .header .greatest
@@ -144,7 +144,7 @@ pub record IsValid (s : State) : Type 0 where
   pub carried : (a b : ℕ) → (a, b) ∈ edgesOf (flowsOf s) → (t : ℕ) → has (setAt (s .storage .tags) a) t ≡ true → has (setAt (s .storage .tags) b) t ≡ true
   -- 'unused places are zero'
   pub unused-flows : (i : ℕ) → s .header .count ≤ i → i < 512 → getD (s .storage .flows) i noFlow ≡ noFlow
-  pub unused-policies : (i : ℕ) → i < 16 * s .header .containers → 4 * getD (s .storage .counts) (i / 16) 0 ≤ i % 16 → getD (s .storage .policies) i 0 ≡ 0
+  pub unused-policies : (i : ℕ) → i < 16 * s .header .containers → 4 * getD (s .storage .policyCounts) (i / 16) 0 ≤ i % 16 → getD (s .storage .policies) i 0 ≡ 0
 
 -- the tests of a valid state pass exactly there
 pub valid : (s : State) → (validOf s ≡ true) ↔ IsValid s

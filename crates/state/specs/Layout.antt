@@ -1,17 +1,20 @@
 -- What is written is read back, lengths stay, and nothing beyond is touched: each written list is a new front before the old rest.
 -- Assumes nothing.
-use mathlib.Core.Path.{_≡_, refl, sym, ap, ap₂, _∙_}
+use mathlib.Core.Path.{_≡_, refl, sym, ap, ap₂, _∙_, subst}
+use mathlib.Core.Logic.{by-cases}
 use mathlib.Core.Bool.{true}
 use mathlib.Core.List.{List, _++_, append-assoc}
-use Prim.Native.Nat.{ℕ, zero, suc, _+_, _-_, _*_, _/_, _%_, _≤_, _<_}
+use Prim.Native.Nat.{ℕ, zero, suc, _+_, _-_, _*_, _/_, _%_, _^_, _≤_, _<_}
+use native.Mathlib.Decide.{decLt}
 use native.Mathlib.Omega.{arith}
 use lib.ListN.{length, getD, take, drop, replicate, length-append, length-replicate, getD-replicate, List·getD-append}
-use lib.Seq.{getD-take, length-front, length-take-le, take-at, drop-at, take-append-seam, drop-append-seam}
+use lib.Seq.{getD-take, getD-drop, length-front, length-take-le, take-at, drop-at, take-append-seam, drop-append-seam}
 use Rattle.model.specs.declared.Flow.{Flow}
 use Rattle.model.specs.Reach.{tabulate}
 use Rattle.model.specs.Closure.{tabulate-length, tabulate-at}
 use Rattle.tagset.specs.declared.TagSet.{TagSet}
-use Rattle.tagset.specs.Set.{bitAt, wordAt, hasW, has}
+use Rattle.tagset.specs.Set.{bitAt, wordAt, hasW, has, IsWords}
+use Rattle.tagset.specs.Laws.{four-words}
 use Rattle.tagset.specs.Word.{each-word}
 use Rattle.state.specs.State.{State, flowsOf, setAt, withSets, noFlow, withFlows}
 use Rattle.state.specs.Valid.{allOf, isNoFlow}
@@ -76,6 +79,29 @@ module _ (n : ℕ) (f : ℕ → TagSet) (ws : List ℕ) where
       ap (λ (w : ℕ). bitAt w (t % 64))
       (each-word (λ q. wordAt (setAt (withSets n f ws) k .words) q ≡ wordAt (f k .words) q) (at (4 * k) 0 (omega arith) (omega arith))
       (at (4 * k + 1) 1 (omega arith) refl) (at (4 * k + 2) 2 (omega arith) refl) (at (4 * k + 3) 3 (omega arith) refl) (λ q. refl) (t / 64))
+
+-- Widths
+
+-- every word has 64 bits
+abbrev pub Fit64 : List ℕ → Type 0
+Fit64 ws = (i : ℕ) → getD ws i 0 < 2 ^ 64
+
+-- so has every set of such words
+pub set-fits : (ws : List ℕ) (k : ℕ) → Fit64 ws → IsWords (setAt ws k)
+unfolding setAt
+set-fits ws k h =
+    four-words (getD ws (4 * k) 0) (getD ws (4 * k + 1) 0) (getD ws (4 * k + 2) 0) (getD ws (4 * k + 3) 0) (h (4 * k)) (h (4 * k + 1)) (h (4 * k + 2)) (h (4 * k + 3))
+
+-- and so have words into which such sets are written
+pub sets-fit : (n : ℕ) (f : ℕ → TagSet) (ws : List ℕ) → ((k : ℕ) → k < n → IsWords (f k)) → Fit64 ws → Fit64 (withSets n f ws)
+unfolding withSets
+sets-fit n f ws p h i =
+    by-cases (decLt i (4 * n))
+    (λ l. rw (List·getD-append (front n f ws) (drop (4 * n) ws) 0 i (omega (arith, words-length n f ws)), tabulate-at (4 * n) (word n f ws) i 0 l) (p (i / 4) (omega (arith, l)) .fits (i % 4)))
+    (λ l. let j : 4 * n + (i - 4 * n) ≡ i = omega (arith, l) in
+    subst (λ (x : ℕ). x < 2 ^ 64)
+    (sym (ap (λ (x : ℕ). getD (withSets n f ws) x 0) (sym j) ∙ sym (getD-drop (4 * n) (withSets n f ws) (i - 4 * n) 0)
+    ∙ ap (λ (l : List ℕ). getD l (i - 4 * n) 0) (sets-beyond n f ws) ∙ getD-drop (4 * n) ws (i - 4 * n) 0 ∙ ap (λ (x : ℕ). getD ws x 0) j)) (h i))
 
 -- A front of one value
 

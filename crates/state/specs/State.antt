@@ -10,11 +10,11 @@ use Rattle.model.specs.Reach.{tabulate}
 use Rattle.tagset.specs.declared.TagSet.{TagSet}
 use Rattle.state.specs.declared.Header.{Header}
 
--- what is lent; in use are 4n words of tag sets, 16n words of policy sets (permitted sets), n counts of these, 512 flows (the rack)
+-- what is lent; in use are 4n words of tag sets, 16n words of policy sets (permitted sets), n counts of these, 512 records of flows (the rack)
 pub record Storage : Type 0 where
   pub tags : List ℕ
   pub policies : List ℕ
-  pub counts : List ℕ
+  pub policyCounts : List ℕ
   pub flows : List Flow
 
 -- the header (the small numbers): n, how many flows are enabled, the greatest accepted number
@@ -25,7 +25,7 @@ pub record State : Type 0 where
 -- 9: 'n is 0 or above 256, or storage shorter than above'
 unfoldable pub badSize : ℕ → Storage → Bool
 badSize n lent =
-    eqb n 0 || ltb 256 n || ltb (length (lent .tags)) (4 * n) || ltb (length (lent .policies)) (16 * n) || ltb (length (lent .counts)) n
+    eqb n 0 || ltb 256 n || ltb (length (lent .tags)) (4 * n) || ltb (length (lent .policies)) (16 * n) || ltb (length (lent .policyCounts)) n
     || ltb (length (lent .flows)) 512
 
 -- set k of a list of words, four words each

@@ -26,7 +26,7 @@ inLimits s = leb 1 (s .header .containers) && leb (s .header .containers) 256
 
 -- 'counts are at most 512 and 4'
 unfoldable pub countsInLimits : State → Bool
-countsInLimits s = leb (s .header .count) 512 && allBelow (s .header .containers) (λ c. leb (getD (s .storage .counts) c 0) 4)
+countsInLimits s = leb (s .header .count) 512 && allBelow (s .header .containers) (λ c. leb (getD (s .storage .policyCounts) c 0) 4)
 
 -- 'channel numbers rise strictly from at least 1 and don't pass the greatest'
 unfoldable pub numbersRise : State → Bool
@@ -54,11 +54,12 @@ setsCarried s = allOf (λ e. subsetOf (setAt (s .storage .tags) (e .0)) (setAt (
 abbrev pub isNoFlow : Flow → Bool
 isNoFlow f = eqb (f .number) 0 && eqb (f .from) 0 && eqb (f .to) 0
 
--- 'unused places are zero': of 512 records those from the count on, and of each container's 16 policy words those from its count of sets on
+-- 'unused places are zero': of 512 records those from the count on, and of each container's 16 policy words those from four times its count of sets on
 unfoldable pub unusedZero : State → Bool
 unusedZero s =
     allOf isNoFlow (drop (s .header .count) (take 512 (s .storage .flows)))
-    && allBelow (16 * s .header .containers) (λ i. implies (leb (4 * getD (s .storage .counts) (i / 16) 0) (i % 16)) (eqb (getD (s .storage .policies) i 0) 0))
+    && allBelow (16 * s .header .containers) (λ i. implies (leb (4 * getD (s .storage .policyCounts) (i / 16) 0) (i % 16)) (eqb (getD (s .storage .policies) i 0) 0))
 
+-- a book is sound if all of them hold
 unfoldable pub validOf : State → Bool
 validOf s = inLimits s && countsInLimits s && numbersRise s && endsProper s && tagsKnown s && ownTags s && setsCarried s && unusedZero s

@@ -24,7 +24,7 @@ lent n =
     record {
       tags = replicate (4 * n + 1) 77;
       policies = replicate (16 * n + 1) 77;
-      counts = replicate (n + 1) 77;
+      policyCounts = replicate (n + 1) 77;
       flows = replicate 513 (flow 7 7 7);
     }
 
@@ -59,7 +59,7 @@ samples =
     ∷ record {
       containers = 5;
       events =
-          enable (flow 1 2 3)
+          enable (record { number = 1; from = 2; to = 3 })
           ∷ enable (flow 2 0 1)
           ∷ disable 2
           ∷ enable (flow 3 1 2) ∷ disable 1 ∷ disable 3 ∷ enable (flow 4 3 4) ∷ disable 4 ∷ [];
@@ -137,8 +137,9 @@ pub samples-hold : map computed samples ≡ samples
 unfolding samples computed answers after those lent edgesOf without keep isEnabled tabulate matrix cell isEdge reachVia hasW bitAt emptySet singleOf unionOf subsetOf exceedsOf countBelow allBelow anyBelow badSize setAt withSets flowsOf withFlows allOf risingFrom inLimits countsInLimits numbersRise endsProper tagsKnown ownTags setsCarried unusedZero validOf decided startOrder started startOf enableOrder unionOver propagated gainOf changed enabling enableOf disableOrder disabling disableOf outcomeOf
 samples-hold = refl
 
--- what starting answers to n 0, 1, 3, 4 and 257 in storage for 3 containers, and what it leaves, word by word, for 1
-pub starts : map (λ n. startOf n (lent 3) .answer .refusal) (0 ∷ 1 ∷ 3 ∷ 4 ∷ 257 ∷ []) ≡ 9 ∷ 0 ∷ 0 ∷ 9 ∷ 9 ∷ []
+-- what starting answers to n in storage for m containers, and what it leaves, word by word, for 1
+pub starts :
+    map (λ (p : ℕ × ℕ). startOf (p .0) (lent (p .1)) .answer .refusal) ((0, 3) ∷ (1, 3) ∷ (3, 3) ∷ (4, 3) ∷ (256, 256) ∷ (257, 257) ∷ []) ≡ 9 ∷ 0 ∷ 0 ∷ 9 ∷ 0 ∷ 9 ∷ []
 unfolding lent badSize decided startOrder startOf
 starts = refl
 
@@ -153,7 +154,7 @@ pub started-words :
                 record {
                   tags = 1 ∷ 0 ∷ 0 ∷ 0 ∷ 77 ∷ [];
                   policies = 0 ∷ 0 ∷ 0 ∷ 0 ∷ 0 ∷ 0 ∷ 0 ∷ 0 ∷ 0 ∷ 0 ∷ 0 ∷ 0 ∷ 0 ∷ 0 ∷ 0 ∷ 0 ∷ 77 ∷ [];
-                  counts = 0 ∷ 77 ∷ [];
+                  policyCounts = 0 ∷ 77 ∷ [];
                   flows = replicate 512 (flow 0 0 0) ++ (flow 7 7 7 ∷ []);
                 };
           };

@@ -1,35 +1,37 @@
 -- THE CLAIMS: what is true of the definitions that the running calls are to equal, each with the demand that it answers.
--- The definitions: model/specs/Model.antt (containers, flows, executions; no word of a tracker); state/specs/State.antt and Valid.antt; Outcome.antt.
--- Words of the claims: IsSized, IsValid, Usable (state/specs/IsValid.antt); StartAnswers, EnableAnswers, DisableAnswers (Table.antt); SameBeyond,
--- totalOf (Effects.antt); Sentence, IsStarted, FlowsChanged (Steps.antt); Follows (Follows.antt); IsFirst (refusal/specs/Order.antt); Standing, Accepted,
--- Occurs, MayEnable (model/specs). Assumes nothing.
+-- The definitions: model/specs/Model.antt (containers, flows, executions; no word of a tracker) and Reach.antt; state/specs/State.antt and Valid.antt;
+-- Outcome.antt; with tagset/specs/Set.antt and refusal/specs/Order.antt (`firstOf`, IsFirst).
+-- Words of the claims: IsSized, ProperEnds, Rising, IsValid, Usable (state/specs/IsValid.antt); Fit64 (state/specs/Layout.antt); StartAnswers, Enables,
+-- EnableAnswers, DisableAnswers (Table.antt); Sentence, IsStarted, FlowsChanged (Steps.antt); SameBeyond, totalOf (Effects.antt); Follows (Follows.antt);
+-- Standing, Accepted, Occurs, MayEnable, Within (model/specs/Standing.antt, Histories.antt, Closure.antt). Assumes nothing.
 use mathlib.Core.Path.{_≡_, refl}
 use mathlib.Core.Bool.{true, false}
 use mathlib.Core.List.{List, [], _∷_, _++_}
-use mathlib.Core.Logic.{_↔_}
-use Prim.Native.Nat.{ℕ, zero, suc, _+_, _*_, _/_, _%_, _≤_, _<_}
+use mathlib.Core.Logic.{_⊎_, _↔_, _≢_}
+use Prim.Native.Nat.{ℕ, suc, _+_, _*_, _/_, _%_, _^_, _≤_, _<_}
 use native.Mathlib.Omega.{arith}
+use lib.Dec.{eqb}
 use lib.ListN.{length, getD}
 use Rattle.truth.specs.Truth.{iff}
 use Rattle.refusal.specs.Order.{IsFirst}
 use Rattle.model.specs.declared.Flow.{Flow}
-use Rattle.model.specs.Model.{_∈_, flow, Event, enable, disable, History, empty, _▸_, enabled, edgesOf, Enabled, Enabled*, Flows, Execution, configuration, without, greatest, joins, accepted}
+use Rattle.model.specs.Model.{_∈_, Event, enable, disable, History, empty, _▸_, enabled, edgesOf, Enabled, Enabled*, Flows, Execution, event, exec, configuration, without, greatest, joins, joined, accepted}
 use Rattle.model.specs.Reach.{reaches}
 use Rattle.model.specs.Closure.{Within, reaches-enabled}
-use Rattle.model.specs.Standing.{Standing, standing, without-part, enabled-flow}
-use Rattle.model.specs.Histories.{flows-empty, flows-one, flows-next, accepted-each, accepted-inside, Accepted, Occurs, MayEnable, enable-joins, disable-joins, numbers-rise}
-use Rattle.model.specs.Propositions.{exact-at, proposition-1, proposition-2}
+use Rattle.model.specs.Standing.{Standing, standing, without-part, enabled-flow, ends-edge}
+use Rattle.model.specs.Histories.{accepted-last, joins-added, not-joins-same, flows-empty, flows-one, flows-next, accepted-each, accepted-inside, Accepted, Occurs, MayEnable, enable-joins, disable-joins, numbers-rise}
+use Rattle.model.specs.Propositions.{event-changes-nothing, exec-adds, exact-at, proposition-1, proposition-2}
 use Rattle.tagset.specs.Set.{has, bitAt}
 use Rattle.state.specs.State.{Storage, State, badSize, setAt, flowsOf}
 use Rattle.state.specs.Valid.{validOf}
-use Rattle.state.specs.Layout.{set-bit, flows-first, flows-count}
+use Rattle.state.specs.Layout.{Fit64, set-bit, flows-first, flows-count}
 use Rattle.state.specs.IsValid.{IsSized, sized, IsValid, valid, Usable}
 use Rattle.tracker.specs.Outcome.{startOrder, startOf, propagated, gainOf, enableOf, disableOf, Call, ask, orderOf, outcomeOf, eventsOf, after, configurationOf}
 use Rattle.tracker.specs.Refusals.{start-refusal, start-refused, call-refusal, call-refused}
 use Rattle.tracker.specs.Table.{StartAnswers, start-answers, EnableAnswers, enable-answers, DisableAnswers, disable-answers}
 use Rattle.tracker.specs.Stays.{settled}
-use Rattle.tracker.specs.Steps.{start-makes-usable, event-leaves-usable, Sentence, enable-sentence, disable-sentence, IsStarted, start-is-started, FlowsChanged, enable-flows, disable-flows}
-use Rattle.tracker.specs.Effects.{start-gains-nothing, SameBeyond, start-beyond, call-beyond, list-beyond, disable-tags, gain-counted, totalOf, enable-gain, disable-gain}
+use Rattle.tracker.specs.Steps.{start-makes-usable, event-leaves-usable, call-keeps, usable-answers, Sentence, enable-sentence, disable-sentence, IsStarted, start-is-started, FlowsChanged, enable-flows, disable-flows}
+use Rattle.tracker.specs.Effects.{start-fits, call-fits, start-gains-nothing, SameBeyond, start-beyond, call-beyond, list-beyond, disable-tags, gain-counted, totalOf, enable-gain, disable-gain}
 use Rattle.tracker.specs.Follows.{Follows, configuration-has, accepted-joins, calls-follow, begun-follows}
 
 -- DEMAND 1: the work, or the refusal that comes first in the paper's order; a refused event changes nothing
@@ -67,7 +69,8 @@ size-is-judged = sized
 pub state-is-judged : (s : State) → (validOf s ≡ true) ↔ IsValid s
 state-is-judged = valid
 
-pub tag-is-a-bit : (ws : List ℕ) (k t : ℕ) → t < 256 → has (setAt ws k) t ≡ bitAt (getD ws (4 * k + t / 64) 0) (t % 64)
+pub tag-is-a-bit : (ws : List ℕ) (k t : ℕ) → t < 256 → has (setAt ws k) t ≡ eqb (getD ws (4 * k + t / 64) 0 / 2 ^ (t % 64) % 2) 1
+unfolding bitAt
 tag-is-a-bit = set-bit
 
 pub flow-is-a-record : (s : State) (i : ℕ) (d : Flow) → i < s .header .count → getD (flowsOf s) i d ≡ getD (s .storage .flows) i d
@@ -85,14 +88,21 @@ pub refused-call-changes-nothing : (s : State) (c : Call) (k : ℕ) → outcomeO
     → (outcomeOf s c .state ≡ s) × (outcomeOf s c .answer .gain ≡ 0)
 refused-call-changes-nothing = call-refused
 
--- STORAGE PAST THE LENGTHS IN USE is never written, and no list becomes longer or shorter
+-- STORAGE PAST THE LENGTHS IN USE is never written, and no list becomes longer or shorter; words of 64 bits stay such
 pub start-writes-nothing-beyond : (n : ℕ) (lent : Storage) → SameBeyond n (startOf n lent .state .storage) lent
 start-writes-nothing-beyond = start-beyond
 
 pub call-writes-nothing-beyond : (s : State) (c : Call) → SameBeyond (s .header .containers) (outcomeOf s c .state .storage) (s .storage)
 call-writes-nothing-beyond = call-beyond
 
--- WHAT AN ACCEPTED CALL LEAVES beside tag sets: n containers with their own tags alone; the flow last and its number the greatest; the flow taken out
+pub start-keeps-64-bits : (n : ℕ) (lent : Storage) → Fit64 (lent .tags) → Fit64 (startOf n lent .state .storage .tags)
+start-keeps-64-bits = start-fits
+
+pub call-keeps-64-bits : (s : State) (c : Call) → Fit64 (s .storage .tags) → Fit64 (outcomeOf s c .state .storage .tags)
+call-keeps-64-bits = call-fits
+
+-- WHAT AN ACCEPTED CALL LEAVES: a start, n containers with their own tags alone; an enable, its flow last and its number the greatest; a disable, the
+-- other flows. Tag sets after events are the matter of demand 2
 pub start-makes-it-new : (n : ℕ) (lent : Storage) → startOf n lent .answer .refusal ≡ 0 → IsStarted n (startOf n lent .state) × (startOf n lent .answer .gain ≡ 0)
 start-makes-it-new n lent a = (start-is-started n lent a, start-gains-nothing n lent)
 
@@ -106,20 +116,19 @@ pub disable-takes-the-flow-out : (s : State) (k : ℕ) → disableOf s k .answer
 unfolding outcomeOf
 disable-takes-the-flow-out = disable-flows
 
--- VALID STAYS VALID (demand 1: no call is refused with 9 or 12 after an accepted start): starting makes a state of the right lengths and valid, an
--- accepted event leaves one whatever the tests let pass, and every call on one leaves one
+-- VALID STAYS VALID. An accepted start or event leaves a state that is valid and of the right lengths, whatever came before; so every call on a valid
+-- state leaves one, and one on a state that is also of the right lengths leaves one that is
 pub start-makes-valid : (n : ℕ) (lent : Storage) → startOf n lent .answer .refusal ≡ 0 → Usable (startOf n lent .state)
 start-makes-valid = start-makes-usable
 
 pub accepted-event-leaves-valid : (s : State) (e : Event) → outcomeOf s (ask e) .answer .refusal ≡ 0 → Usable (outcomeOf s (ask e) .state)
 accepted-event-leaves-valid = event-leaves-usable
 
-pub call-keeps-valid : (s : State) (c : Call) → Usable s → Usable (outcomeOf s c .state)
-call-keeps-valid s c u = go c (outcomeOf s c .answer .refusal) refl
-  where
-    go : (c : Call) (r : ℕ) → outcomeOf s c .answer .refusal ≡ r → Usable (outcomeOf s c .state)
-    go (ask e) zero a = event-leaves-usable s e a
-    go c (suc k) a = rw (call-refused s c k a .0) u
+pub call-keeps-valid : (s : State) (c : Call) → IsValid s → IsValid (outcomeOf s c .state)
+call-keeps-valid s c v = call-keeps IsValid s c (λ s u. u .valid) v
+
+pub call-keeps-usable : (s : State) (c : Call) → Usable s → Usable (outcomeOf s c .state)
+call-keeps-usable s c u = call-keeps Usable s c (λ s u. u) u
 
 -- DEMAND 2, one event: each tag set is the one that document 01's sentence gives
 
@@ -157,8 +166,16 @@ disable-has-nothing-to-propagate s k u c t l =
     let p = settled s (without k (flowsOf s)) u (λ f. without-part k (flowsOf s)) c t l in
     iff (has (setAt (propagated (s .header .containers) (without k (flowsOf s)) (s .storage .tags)) c) t) (has (setAt (s .storage .tags) c) t) (p .0) (p .1)
 
--- DEMANDS 2 AND 3, a list of calls on n containers, from any lent storage that starting accepted. Each call gets the header that the one before
--- answered and the lists that it left, refused or not
+-- LISTS OF CALLS: each call gets the header that the one before answered and the lists that it left, refused or not; and asks for one event
+pub each-call-gets-what-was-left : (s : State) (c : Call) (cs : List Call) → after s (c ∷ cs) ≡ after (outcomeOf s c .state) cs
+unfolding after
+each-call-gets-what-was-left s c cs = refl
+
+pub each-call-asks-for-its-event : (e : Event) (cs : List Call) → eventsOf (ask e ∷ cs) ≡ e ∷ eventsOf cs
+unfolding eventsOf
+each-call-asks-for-its-event e cs = refl
+
+-- DEMANDS 2 AND 3, a list of calls on n containers, from any lent storage that starting accepted
 module _ (n : ℕ) (lent : Storage) (begun : startOf n lent .answer .refusal ≡ 0) (calls : List Call) where
   -- the accepted history, from n and the calls' arguments alone
   abbrev pub history : History
@@ -168,10 +185,13 @@ module _ (n : ℕ) (lent : Storage) (begun : startOf n lent .answer .refusal ≡
   abbrev pub tracker : State
   tracker = after (startOf n lent .state) calls
 
-  -- DEMANDS 1 AND 2: its n, its table of flows and its greatest number are the history's, its state is valid, and the lent storage past the lengths in
-  -- use is as it was before starting
+  -- DEMANDS 1 AND 2: its n, its table of flows and its greatest number are the history's, its sets are Flows, and its state is valid
   pub tracker-follows : Follows n history tracker
   tracker-follows = calls-follow n calls empty (startOf n lent .state) (begun-follows n lent begun)
+
+  -- DEMAND 1: so no call is refused for its storage or its state, and the lent storage past the lengths in use is as it was before starting
+  pub no-call-answers-9-or-12 : (e : Event) → (outcomeOf tracker (ask e) .answer .refusal ≢ 9) × (outcomeOf tracker (ask e) .answer .refusal ≢ 12)
+  no-call-answers-9-or-12 e = usable-answers tracker e (tracker-follows .usable)
 
   pub tracker-writes-nothing-beyond : SameBeyond n (tracker .storage) lent
   tracker-writes-nothing-beyond = list-beyond n lent begun calls
@@ -205,6 +225,16 @@ enable-joins-exactly-if = enable-joins
 pub disable-joins-exactly-if : (n : ℕ) (h : History) (k : ℕ) → (joins n h (disable k) ≡ true) ↔ ((f : Flow) × (f ∈ enabled h) × (f .number ≡ k))
 disable-joins-exactly-if = disable-joins
 
+-- the accepted history of one event more has it last if it joins, and is the same if it does not
+pub one-more-event : (n : ℕ) (es : List Event) (e : Event) → accepted n (es ++ (e ∷ [])) ≡ joined n (accepted n es) e
+one-more-event = accepted-last
+
+pub an-event-that-joins-is-last : (n : ℕ) (h : History) (e : Event) → joins n h e ≡ true → joined n h e ≡ h ▸ e
+an-event-that-joins-is-last = joins-added
+
+pub an-event-that-does-not-changes-nothing : (n : ℕ) (h : History) (e : Event) → joins n h e ≡ false → joined n h e ≡ h
+an-event-that-does-not-changes-nothing = not-joins-same
+
 -- each event of an accepted history joined what was accepted before; and no number enabled in it is 0 or passes its greatest
 pub each-event-joined : (n : ℕ) (es : List Event) → Accepted n (accepted n es)
 each-event-joined = accepted-each
@@ -216,7 +246,7 @@ greatest-is-greatest = numbers-rise
 pub enabled-is-standing : (f : Flow) (h : History) → (f ∈ enabled h) ↔ Standing f h
 enabled-is-standing = standing
 
-pub enabled-is-a-flow : (h : History) (a b : ℕ) → Enabled h a b ↔ ((k : ℕ) × (flow k a b ∈ enabled h))
+pub enabled-is-a-flow : (h : History) (a b : ℕ) → Enabled h a b ↔ ((f : Flow) × (f ∈ enabled h) × (f .from ≡ a) × (f .to ≡ b))
 enabled-is-a-flow = enabled-flow
 
 -- Enabled* is what propagation computes with, where the enabled flows have their ends below n
@@ -232,6 +262,14 @@ flows-of-one-event = flows-one
 
 pub flows-of-one-event-more : (n : ℕ) (h : History) (e : Event) (t c : ℕ) → Flows n (h ▸ e) t c ↔ ((a : ℕ) × Flows n h t a × Enabled* (h ▸ e) a c)
 flows-of-one-event-more = flows-next
+
+-- in an execution an event changes no set; an execution of an enabled flow adds the tags of its one end to those of its other, and nothing else
+pub an-event-changes-no-set : (n : ℕ) {h : History} (x : Execution h) (e : Event) → configuration n (event x e) ≡ configuration n x
+an-event-changes-no-set = event-changes-nothing
+
+pub a-passage-adds-tags : (n : ℕ) {h : History} (x : Execution h) (f : Flow) (i : f ∈ enabled h) (c t : ℕ)
+    → (configuration n (exec x f i (f .from) (f .to) (ends-edge f)) c t ≡ true) ↔ ((configuration n x c t ≡ true) ⊎ ((c ≡ f .to) × (configuration n x (f .from) t ≡ true)))
+a-passage-adds-tags = exec-adds
 
 -- Proposition 1 (soundness): where an execution of a history has put a tag, Flows relates the two
 pub no-flow-is-missed : (n : ℕ) {h : History} (x : Execution h) (c t : ℕ) → configuration n x c t ≡ true → Flows n h t c

@@ -9,14 +9,15 @@ use lib.ListN.{length, drop, length-append}
 use Rattle.refusal.specs.Order.{firstOf}
 use Rattle.model.specs.declared.Flow.{Flow}
 use Rattle.model.specs.Model.{Event, enable, disable, without}
-use Rattle.tagset.specs.Set.{has, sizeOf, subsetOf}
-use Rattle.tagset.specs.Laws.{size-subset, subset-of-has, subset-refl}
+use Rattle.tagset.specs.Set.{has, singleOf, sizeOf, subsetOf}
+use Rattle.tagset.specs.Laws.{single-words, size-subset, subset-of-has, subset-refl}
 use Rattle.tagset.specs.Below.{count-none}
 use Rattle.state.specs.State.{Storage, State, setAt, flowsOf}
-use Rattle.state.specs.Layout.{sets-length, sets-beyond, front-length, front-beyond, flows-length, flows-beyond}
+use Rattle.state.specs.Layout.{Fit64, sets-fit, sets-length, sets-beyond, front-length, front-beyond, flows-length, flows-beyond}
 use Rattle.state.specs.IsValid.{IsSized, Usable}
 use Rattle.tracker.specs.Outcome.{decided, noHeader, startOrder, started, startOf, propagated, gainOf, changed, enabling, disabling, enableOrder, enableOf, disableOrder, disableOf, Call, ask, outcomeOf, after}
 use Rattle.tracker.specs.Refusals.{call-refused, start-refused}
+use Rattle.tracker.specs.Propagation.{propagated-fits}
 use Rattle.tracker.specs.Stays.{usable-count, without-length, propagated-length}
 use Rattle.tracker.specs.Steps.{Sentence, enable-sentence, start-accepted, enable-accepted, disable-accepted, start-leaves, enable-leaves, disable-leaves}
 
@@ -24,11 +25,11 @@ use Rattle.tracker.specs.Steps.{Sentence, enable-sentence, start-accepte
 pub record SameBeyond (n : ℕ) (a b : Storage) : Type 0 where
   pub tag-words : length (a .tags) ≡ length (b .tags)
   pub policy-words : length (a .policies) ≡ length (b .policies)
-  pub count-bytes : length (a .counts) ≡ length (b .counts)
+  pub count-bytes : length (a .policyCounts) ≡ length (b .policyCounts)
   pub records : length (a .flows) ≡ length (b .flows)
   pub tags-beyond : drop (4 * n) (a .tags) ≡ drop (4 * n) (b .tags)
   pub policies-beyond : drop (16 * n) (a .policies) ≡ drop (16 * n) (b .policies)
-  pub counts-beyond : drop n (a .counts) ≡ drop n (b .counts)
+  pub counts-beyond : drop n (a .policyCounts) ≡ drop n (b .policyCounts)
   pub flows-beyond : drop 512 (a .flows) ≡ drop 512 (b .flows)
 
 -- a storage is like itself, and like what one like it is like
@@ -72,11 +73,11 @@ started-beyond n lent z =
     record {
       tag-words = sets-length n _ (lent .tags) (z .tag-words);
       policy-words = front-length (16 * n) 0 (lent .policies) (z .policy-words);
-      count-bytes = front-length n 0 (lent .counts) (z .count-bytes);
+      count-bytes = front-length n 0 (lent .policyCounts) (z .count-bytes);
       records = flows-length [] (lent .flows) (omega arith) (z .records);
       tags-beyond = sets-beyond n _ (lent .tags);
       policies-beyond = front-beyond (16 * n) 0 (lent .policies);
-      counts-beyond = front-beyond n 0 (lent .counts);
+      counts-beyond = front-beyond n 0 (lent .policyCounts);
       flows-beyond = flows-beyond [] (lent .flows) (omega arith);
     }
 
@@ -116,9 +117,9 @@ call-beyond s c = go (outcomeOf s c .answer .refusal) refl
     accepted (ask (enable f)) a =
         let e = enable-accepted s f .0 a in
         rw (enable-leaves s f a)
-        (changed-beyond s (flowsOf s ++ (f ∷ [])) (f .number) (propagated (s .header .containers) (flowsOf s ++ (f ∷ [])) (s .storage .tags)) (e .before)
-        (omega (arith, length-append (flowsOf s) (f ∷ []), usable-count s (e .before), e .room))
-        (propagated-length (s .header .containers) (flowsOf s ++ (f ∷ [])) (s .storage .tags) (e .before .sized .tag-words))
+        (changed-beyond s (flowsOf s ++ (f ∷ [])) (f .number) (propagated (s .header .containers) (flowsOf s ++ (f ∷ [])) (s .storage .tags)) (e .usable)
+        (omega (arith, length-append (flowsOf s) (f ∷ []), usable-count s (e .usable), e .room))
+        (propagated-length (s .header .containers) (flowsOf s ++ (f ∷ [])) (s .storage .tags) (e .usable .sized .tag-words))
         (propagated-beyond (s .header .containers) (flowsOf s ++ (f ∷ [])) (s .storage .tags)))
     accepted (ask (disable k)) a =
         let u = disable-accepted s k .0 a .0 in
@@ -232,3 +233,23 @@ start-gains-nothing n lent = go (firstOf (startOrder n lent) 0)
     go : (r : ℕ) → decided r (record { header = noHeader; storage = lent }) 0 (started n lent) .answer .gain ≡ 0
     go zero = unfold decided in refl
     go (suc k) = unfold decided in refl
+
+-- WIDTHS
+
+-- where every word of the tag sets has 64 bits, so it is after a start and after every call
+pub start-fits : (n : ℕ) (lent : Storage) → Fit64 (lent .tags) → Fit64 (startOf n lent .state .storage .tags)
+unfolding started
+start-fits n lent h = go (startOf n lent .answer .refusal) refl
+  where
+    go : (r : ℕ) → startOf n lent .answer .refusal ≡ r → Fit64 (startOf n lent .state .storage .tags)
+    go zero a = rw (start-leaves n lent a) (sets-fit n singleOf (lent .tags) (λ k l. single-words k) h)
+    go (suc k) a = rw (start-refused n lent k a .0) h
+
+pub call-fits : (s : State) (c : Call) → Fit64 (s .storage .tags) → Fit64 (outcomeOf s c .state .storage .tags)
+unfolding enabling changed
+call-fits s (ask (enable f)) h = go (outcomeOf s (ask (enable f)) .answer .refusal) refl
+  where
+    go : (r : ℕ) → outcomeOf s (ask (enable f)) .answer .refusal ≡ r → Fit64 (outcomeOf s (ask (enable f)) .state .storage .tags)
+    go zero a = rw (enable-leaves s f a) (propagated-fits (s .header .containers) (flowsOf s ++ (f ∷ [])) (s .storage .tags) h)
+    go (suc k) a = rw (call-refused s (ask (enable f)) k a .0) h
+call-fits s (ask (disable k)) h = rw (disable-tags s k) h

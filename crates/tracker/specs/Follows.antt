@@ -20,7 +20,8 @@ use Rattle.state.specs.State.{Storage, State, setAt, flowsOf}
 use Rattle.state.specs.IsValid.{IsSized, Usable}
 use Rattle.tracker.specs.Outcome.{started, startOf, Call, ask, outcomeOf, eventsOf, after, configurationOf}
 use Rattle.tracker.specs.Refusals.{call-refused}
-use Rattle.tracker.specs.Stays.{Enables, usable-count, started-has, start-usable, flows-within}
+use Rattle.tracker.specs.Table.{Enables}
+use Rattle.tracker.specs.Stays.{usable-count, started-has, start-usable, flows-within}
 use Rattle.tracker.specs.Steps.{start-accepted, enable-accepted, disable-accepted, start-leaves, event-leaves-usable, Sentence, enable-sentence, disable-sentence, enable-flows, disable-flows}
 use Rattle.tracker.specs.Effects.{event-containers}
 
@@ -75,7 +76,7 @@ accepted-joins n h s (enable f) w =
     back : MayEnable n h f → Enables s f
     back m =
         record {
-          before = w .usable;
+          usable = w .usable;
           proper = (omega (arith, m .from-below, w .size), omega (arith, m .to-below, w .size), m .differ);
           above = omega (arith, m .above, w .same-greatest);
           room = omega (arith, m .room, count);

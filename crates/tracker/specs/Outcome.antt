@@ -24,14 +24,15 @@ pub record Outcome : Type 0 where
   pub answer : Answer
   pub state : State
 
--- by the refusal's number, where 0 is none: the work; 'every refusal answers its number with all other numbers 0, the book's small numbers come
--- back as they went in [..], and all lent memory keeps its content'
+-- 0: the work is done. Otherwise: 'every refusal answers its number with all other numbers 0, the book's small numbers come back as they went in
+-- [..], and all lent memory keeps its content'
 unfoldable pub decided : ℕ → State → ℕ → State → Outcome
 decided zero before gain after = record { answer = record { refusal = 0; gain = gain }; state = after }
 decided (suc k) before gain after = record { answer = record { refusal = suc k; gain = 0 }; state = before }
 
 -- STARTING
 
+-- 'Starting: 9'
 unfoldable pub startOrder : ℕ → Storage → List (Bool × ℕ)
 startOrder n lent = (badSize n lent, 9) ∷ []
 
@@ -44,7 +45,7 @@ started n lent =
           record {
             tags = withSets n singleOf (lent .tags);
             policies = replicate (16 * n) 0 ++ drop (16 * n) (lent .policies);
-            counts = replicate n 0 ++ drop n (lent .counts);
+            policyCounts = replicate n 0 ++ drop n (lent .policyCounts);
             flows = withFlows [] (lent .flows);
           };
     }
@@ -53,11 +54,13 @@ started n lent =
 abbrev pub noHeader : Header
 noHeader = record { containers = 0; count = 0; greatest = 0 }
 
+-- starting with n containers in this storage
 unfoldable pub startOf : ℕ → Storage → Outcome
 startOf n lent = decided (firstOf (startOrder n lent) 0) (record { header = noHeader; storage = lent }) 0 (started n lent)
 
 -- ENABLING
 
+-- 'Opening: 9, 12, 4 for from, 4 for to, 5, 6, 7'
 unfoldable pub enableOrder : State → Flow → List (Bool × ℕ)
 enableOrder s f =
     (badSize (s .header .containers) (s .storage), 9)
@@ -89,13 +92,14 @@ changed s fs greatest tags =
     record {
       header = record { containers = s .header .containers; count = length fs; greatest = greatest };
       storage =
-          record { tags = tags; policies = s .storage .policies; counts = s .storage .counts; flows = withFlows fs (s .storage .flows) };
+          record { tags = tags; policies = s .storage .policies; policyCounts = s .storage .policyCounts; flows = withFlows fs (s .storage .flows) };
     }
 
 -- the state after an accepted enable
 unfoldable pub enabling : State → Flow → State
 enabling s f = let fs = flowsOf s ++ (f ∷ []) in changed s fs (f .number) (propagated (s .header .containers) fs (s .storage .tags))
 
+-- enabling a flow in this state
 unfoldable pub enableOf : State → Flow → Outcome
 enableOf s f =
     let s' = enabling s f in
@@ -103,6 +107,7 @@ enableOf s f =
 
 -- DISABLING
 
+-- 'Closing: 9, 12, 8'
 unfoldable pub disableOrder : State → ℕ → List (Bool × ℕ)
 disableOrder s k = (badSize (s .header .containers) (s .storage), 9) ∷ (not (validOf s), 12) ∷ (not (isEnabled k (flowsOf s)), 8) ∷ []
 
@@ -120,6 +125,7 @@ disableOf s k = decided (firstOf (disableOrder s k) 0) s 0 (disabling s k)
 pub data Call : Type 0 where
   ask : Event → Call
 
+-- the order of its refusals, and its outcome
 unfoldable pub orderOf : State → Call → List (Bool × ℕ)
 orderOf s (ask (enable f)) = enableOrder s f
 orderOf s (ask (disable k)) = disableOrder s k

@@ -4,16 +4,17 @@ use mathlib.Core.Bool.{Bool, true, false, _&&_, _||_, cond}
 use mathlib.Core.Logic.{_↔_}
 use mathlib.Core.List.{List}
 use Prim.Native.Nat.{ℕ, zero, suc, _<_}
+use borrow.Table.Steps.{cases}
 use Rattle.truth.specs.Truth.{and-both, both-and}
 use Rattle.model.specs.declared.Flow.{Flow}
 use Rattle.model.specs.Model.{edgesOf}
 use Rattle.model.specs.Reach.{reaches}
 use Rattle.tagset.specs.declared.TagSet.{TagSet}
-use Rattle.tagset.specs.Set.{has, unionOf, anyBelow}
+use Rattle.tagset.specs.Set.{has, unionOf, anyBelow, IsWords}
 use Rattle.tagset.specs.Below.{any-find, any-make}
-use Rattle.tagset.specs.Laws.{union-has, empty-has}
+use Rattle.tagset.specs.Laws.{union-has, empty-has, empty-words, union-words}
 use Rattle.state.specs.State.{setAt}
-use Rattle.state.specs.Layout.{set-written}
+use Rattle.state.specs.Layout.{set-written, Fit64, set-fits, sets-fit}
 use Rattle.tracker.specs.Outcome.{unionOver, propagated}
 
 -- a tag is in the united sets exactly if it is in one of them
@@ -45,3 +46,18 @@ propagated-has n fs ws b t l =
 
     back : (a : ℕ) × (a < n) × (reaches n (edgesOf fs) a b ≡ true) × (has (setAt ws a) t ≡ true) → anyBelow n test ≡ true
     back r = any-make n test (r .0) (r .1) (both-and (r .2) (r .3))
+
+-- where every word has 64 bits, so it is of united sets
+union-over-words : (n : ℕ) (p : ℕ → Bool) (f : ℕ → TagSet) → ((a : ℕ) → IsWords (f a)) → IsWords (unionOver n p f)
+unfolding unionOver
+union-over-words zero p f h = empty-words
+union-over-words (suc n) p f h =
+    let rest = union-over-words n p f h in
+    cases (p n) (λ e. rw e (union-words (f n) (unionOver n p f) (h n) rest)) (λ e. rw e rest)
+
+-- and of what propagation leaves
+pub propagated-fits : (n : ℕ) (fs : List Flow) (ws : List ℕ) → Fit64 ws → Fit64 (propagated n fs ws)
+unfolding propagated
+propagated-fits n fs ws h =
+    sets-fit n (λ b. unionOver n (λ a. reaches n (edgesOf fs) a b) (setAt ws)) ws
+    (λ b l. union-over-words n (λ a. reaches n (edgesOf fs) a b) (setAt ws) (λ a. set-fits ws a h)) h

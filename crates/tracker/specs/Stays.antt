@@ -21,6 +21,7 @@ use Rattle.state.specs.State.{Storage, State, setAt, flowsOf, withFlows}
 use Rattle.state.specs.Layout.{flows-count, set-written, sets-length, front-length, front-at, flows-length, flows-taken, flows-unused}
 use Rattle.state.specs.IsValid.{IsSized, Rising, unused-iff, ProperEnds, IsValid, Usable}
 use Rattle.tracker.specs.Outcome.{started, propagated, changed, enabling, disabling}
+use Rattle.tracker.specs.Table.{Enables}
 use Rattle.tracker.specs.Propagation.{propagated-has}
 
 -- LISTS OF FLOWS
@@ -164,14 +165,7 @@ changed-usable s fs greatest tags u few rising past ends long known own carried 
 
 -- CALLS
 
--- what a usable state and an enable must have for no refusal to apply
-pub record Enables (s : State) (f : Flow) : Type 0 where
-  pub before : Usable s
-  pub proper : ProperEnds (s .header .containers) f
-  pub above : s .header .greatest < f .number
-  pub room : s .header .count < 512
-
--- such an enable leaves a usable state
+-- an enable that no refusal meets leaves a usable state
 pub enable-usable : (s : State) (f : Flow) → Enables s f → Usable (enabling s f)
 unfolding enabling
 enable-usable s f e =
@@ -182,7 +176,7 @@ enable-usable s f e =
     (λ c l. propagated-keeps n fs ws within c c l (u .valid .own c l)) (propagated-carried n fs ws within)
   where
     u : Usable s
-    u = e .before
+    u = e .usable
 
     n : ℕ
     n = s .header .containers
@@ -249,7 +243,7 @@ start-usable n lent z =
             most = z .most;
             tag-words = rw (sets-length n singleOf (lent .tags) (z .tag-words)) (z .tag-words);
             policy-words = rw (front-length (16 * n) 0 (lent .policies) (z .policy-words)) (z .policy-words);
-            count-bytes = rw (front-length n 0 (lent .counts) (z .count-bytes)) (z .count-bytes);
+            count-bytes = rw (front-length n 0 (lent .policyCounts) (z .count-bytes)) (z .count-bytes);
             records = rw (flows-length [] (lent .flows) (omega arith) (z .records)) (z .records);
           };
       valid =
@@ -257,7 +251,7 @@ start-usable n lent z =
             some = z .some;
             most = z .most;
             table-count = omega arith;
-            policy-counts = λ c l. rw (front-at n 0 (lent .counts) c 0 l) (omega arith);
+            policy-counts = λ c l. rw (front-at n 0 (lent .policyCounts) c 0 l) (omega arith);
             rising = tt;
             not-past = λ f i. absurd (List·Memᴰ·not-nil i);
             ends = λ f i. absurd (List·Memᴰ·not-nil i);

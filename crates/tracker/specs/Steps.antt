@@ -2,9 +2,9 @@
 use mathlib.Core.Path.{_≡_, refl}
 use mathlib.Core.Bool.{true}
 use mathlib.Core.List.{List, [], _∷_, _++_}
-use mathlib.Core.Logic.{_↔_, Iff·rfl, Iff·symm, Iff·trans}
+use mathlib.Core.Logic.{_↔_, _≢_, Iff·rfl, Iff·symm, Iff·trans}
 use mathlib.Mathlib.Logic.Relation.{ReflTransGenᴰ}
-use Prim.Native.Nat.{ℕ, _*_, _<_}
+use Prim.Native.Nat.{ℕ, zero, suc, _*_, _<_}
 use native.Mathlib.Omega.{arith}
 use lib.Dec.{eqb}
 use lib.ListN.{length, getD}
@@ -17,11 +17,11 @@ use Rattle.tagset.specs.Set.{has}
 use Rattle.state.specs.State.{Storage, State, setAt, flowsOf, noFlow}
 use Rattle.state.specs.Layout.{front-at}
 use Rattle.state.specs.IsValid.{IsSized, Usable}
-use Rattle.tracker.specs.Outcome.{noHeader, startOrder, started, startOf, propagated, changed, enabling, disabling, enableOrder, enableOf, disableOrder, disableOf, ask, outcomeOf}
-use Rattle.tracker.specs.Refusals.{decided-done}
-use Rattle.tracker.specs.Table.{StartAnswers, start-answers, EnableAnswers, enable-answers, DisableAnswers, disable-answers, accepted}
+use Rattle.tracker.specs.Outcome.{noHeader, startOrder, started, startOf, propagated, changed, enabling, disabling, enableOrder, enableOf, disableOrder, disableOf, Call, ask, outcomeOf}
+use Rattle.tracker.specs.Refusals.{decided-done, call-refused}
+use Rattle.tracker.specs.Table.{Enables, StartAnswers, start-answers, EnableAnswers, enable-answers, DisableAnswers, disable-answers, bad-size, invalid-state, accepted}
 use Rattle.tracker.specs.Propagation.{propagated-has}
-use Rattle.tracker.specs.Stays.{Enables, changed-flows, started-has, start-usable, enable-usable, disable-usable, flows-within, settled}
+use Rattle.tracker.specs.Stays.{changed-flows, started-has, start-usable, enable-usable, disable-usable, flows-within, settled}
 
 -- WHICH CALLS ARE ACCEPTED: the rows of the table with number 0
 
@@ -76,6 +76,32 @@ pub event-leaves-usable : (s : State) (e : Event) → outcomeOf s (ask e) .answe
 event-leaves-usable s (enable f) = enable-leaves-usable s f
 event-leaves-usable s (disable k) = disable-leaves-usable s k
 
+-- so what every usable state has, every call keeps
+pub call-keeps : (P : State → Type 0) (s : State) (c : Call) → ((s : State) → Usable s → P s) → P s → P (outcomeOf s c .state)
+call-keeps P s c f p = go c (outcomeOf s c .answer .refusal) refl
+  where
+    go : (c : Call) (r : ℕ) → outcomeOf s c .answer .refusal ≡ r → P (outcomeOf s c .state)
+    go (ask e) zero a = f (outcomeOf s (ask e) .state) (event-leaves-usable s e a)
+    go c (suc k) a = rw (call-refused s c k a .0) p
+
+-- a usable state is refused with neither 9 nor 12
+pub usable-answers : (s : State) (e : Event) → Usable s → (outcomeOf s (ask e) .answer .refusal ≢ 9) × (outcomeOf s (ask e) .answer .refusal ≢ 12)
+unfolding outcomeOf
+usable-answers s (enable f) u = (λ a. short (enable-answers s f 9 .0 a), λ a. wrong (enable-answers s f 12 .0 a))
+  where
+    short : EnableAnswers s f 9 → ⊥
+    short (bad-size z) = z (u .sized)
+
+    wrong : EnableAnswers s f 12 → ⊥
+    wrong (invalid-state z v) = v (u .valid)
+usable-answers s (disable k) u = (λ a. short (disable-answers s k 9 .0 a), λ a. wrong (disable-answers s k 12 .0 a))
+  where
+    short : DisableAnswers s k 9 → ⊥
+    short (bad-size z) = z (u .sized)
+
+    wrong : DisableAnswers s k 12 → ⊥
+    wrong (invalid-state z v) = v (u .valid)
+
 -- THE SETS AFTER AN EVENT
 
 -- document 01: 'after each event, holder b has tag t exactly if some holder a had t before the event and b can be reached from a by zero or more
@@ -128,7 +154,7 @@ pub record IsStarted (n : ℕ) (s : State) : Type 0 where
   pub no-flows : s .header .count ≡ 0
   pub no-number : s .header .greatest ≡ 0
   pub own-alone : (c t : ℕ) → c < n → has (setAt (s .storage .tags) c) t ≡ eqb t c
-  pub no-policies : (c : ℕ) → c < n → getD (s .storage .counts) c 0 ≡ 0
+  pub no-policies : (c : ℕ) → c < n → getD (s .storage .policyCounts) c 0 ≡ 0
   pub zero-policies : (i : ℕ) → i < 16 * n → getD (s .storage .policies) i 0 ≡ 0
   pub zero-flows : (i : ℕ) → i < 512 → getD (s .storage .flows) i noFlow ≡ noFlow
 
@@ -142,7 +168,7 @@ start-is-started n lent a =
       no-flows = refl;
       no-number = refl;
       own-alone = started-has n lent b;
-      no-policies = λ c l. front-at n 0 (lent .counts) c 0 l;
+      no-policies = λ c l. front-at n 0 (lent .policyCounts) c 0 l;
       zero-policies = λ i l. front-at (16 * n) 0 (lent .policies) i 0 l;
       zero-flows = λ i l. start-usable n lent b .valid .unused-flows i (omega arith) l;
     })
@@ -154,7 +180,7 @@ pub record FlowsChanged (fs : List Flow) (greatest : ℕ) (s s' : State) : Type 
   pub greatest-is : s' .header .greatest ≡ greatest
   pub containers : s' .header .containers ≡ s .header .containers
   pub policies : s' .storage .policies ≡ s .storage .policies
-  pub counts : s' .storage .counts ≡ s .storage .counts
+  pub counts : s' .storage .policyCounts ≡ s .storage .policyCounts
 
 changed-so : (s : State) (fs : List Flow) (greatest : ℕ) (tags : List ℕ) → FlowsChanged fs greatest s (changed s fs greatest tags)
 unfolding changed

@@ -18,12 +18,18 @@ use Rattle.state.specs.Valid.{validOf}
 use Rattle.state.specs.IsValid.{IsSized, sized, ProperEnds, IsValid, valid, Usable}
 use Rattle.tracker.specs.Outcome.{noHeader, startOrder, started, startOf, enableOrder, enabling, enableOf, disableOrder, disabling, disableOf}
 use Rattle.tracker.specs.Refusals.{decided-number}
-use Rattle.tracker.specs.Stays.{Enables}
 
 -- 'Starting: 9'
 pub data StartAnswers (n : ℕ) (lent : Storage) : ℕ → Type 0 where
   bad-size : ¬ IsSized n lent → StartAnswers n lent 9
   accepted : IsSized n lent → StartAnswers n lent 0
+
+-- an enable to which no refusal applies
+pub record Enables (s : State) (f : Flow) : Type 0 where
+  pub usable : Usable s
+  pub proper : ProperEnds (s .header .containers) f
+  pub above : s .header .greatest < f .number
+  pub room : s .header .count < 512
 
 -- 'Opening: 9, 12, 4 for from, 4 for to, 5, 6, 7'
 pub data EnableAnswers (s : State) (f : Flow) : ℕ → Type 0 where
@@ -110,7 +116,7 @@ enable-number s f (table-full u p g r) =
     rw (sized-state s u, valid-state s u, lt-leb (s .header .containers) (f .from) (p .0), lt-leb (s .header .containers) (f .to) (p .1), ne-eqb (f .from) (f .to) (p .2), lt-leb (f .number) (s .header .greatest) g, le-leb 512 (s .header .count) r)
     refl
 enable-number s f (accepted e) =
-    rw (sized-state s (e .before), valid-state s (e .before), lt-leb (s .header .containers) (f .from) (e .proper .0), lt-leb (s .header .containers) (f .to) (e .proper .1), ne-eqb (f .from) (f .to) (e .proper .2), lt-leb (f .number) (s .header .greatest) (e .above), lt-leb 512 (s .header .count) (e .room))
+    rw (sized-state s (e .usable), valid-state s (e .usable), lt-leb (s .header .containers) (f .from) (e .proper .0), lt-leb (s .header .containers) (f .to) (e .proper .1), ne-eqb (f .from) (f .to) (e .proper .2), lt-leb (f .number) (s .header .greatest) (e .above), lt-leb 512 (s .header .count) (e .room))
     refl
 
 -- of a usable state: the ends, the number, the room
@@ -131,7 +137,7 @@ enable-row s f u =
         by-cases (decLt (s .header .greatest) (f .number))
         (λ g.
         by-cases (decLt (s .header .count) 512)
-        (λ r. (0, accepted (record { before = u; proper = p; above = g; room = r })))
+        (λ r. (0, accepted (record { usable = u; proper = p; above = g; room = r })))
         (λ r. (7, table-full u p g (omega (arith, r)))))
         (λ g. (6, stale-number u p (omega (arith, g))))
 
