@@ -137,7 +137,8 @@ pub record IsValid (s : State) : Type 0 where
   pub ends : (f : Flow) → f ∈ flowsOf s → ProperEnds (s .header .containers) f
   -- 'no set names a tag of n or more'
   pub known-tags : (c t : ℕ) → c < s .header .containers → has (setAt (s .storage .tags) c) t ≡ true → t < s .header .containers
-  pub known-policies : (k t : ℕ) → k < 4 * s .header .containers → has (setAt (s .storage .policies) k) t ≡ true → t < s .header .containers
+  pub known-policies : (c k t : ℕ) → c < s .header .containers → k < getD (s .storage .policyCounts) c 0 → has (setAt (s .storage .policies) (4 * c + k)) t ≡ true
+      → t < s .header .containers
   -- 'each holder has its own tag'
   pub own : (c : ℕ) → c < s .header .containers → has (setAt (s .storage .tags) c) c ≡ true
   -- 'for each open channel the from-set is part of the to-set'
@@ -161,7 +162,7 @@ valid s =
             not-past = past;
             ends = λ f m. let e = ends f m in (e .0 .0, e .0 .1, e .1);
             known-tags = λ c t l. tags c l t;
-            known-policies = λ k t l. sets k l t;
+            known-policies = λ c k t l m. sets c l k m t;
             own = own;
             carried = λ a b. carried (a, b);
             unused-flows = unused-iff 512 (s .header .count) (s .storage .flows) .0 (simp tests flows);
@@ -172,7 +173,7 @@ valid s =
           (
             (
               ((((v .some, v .most), (v .table-count, v .policy-counts)), (v .rising, v .not-past)), λ f m. let e = v .ends f m in ((e .0, e .1), e .2)),
-              (λ c l t. v .known-tags c t l, λ k l t. v .known-policies k t l),
+              (λ c l t. v .known-tags c t l, λ c l k m t. v .known-policies c k t l m),
             ),
             v .own,
           ),

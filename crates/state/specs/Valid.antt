@@ -2,7 +2,7 @@
 -- lengths is taken for granted here: where it is shorter, 9 comes first. Assumes nothing.
 use mathlib.Core.Bool.{Bool, true, _&&_, not}
 use mathlib.Core.List.{List, [], _∷_}
-use Prim.Native.Nat.{ℕ, _*_, _/_, _%_}
+use Prim.Native.Nat.{ℕ, _+_, _*_, _/_, _%_}
 use lib.Dec.{leb, ltb, eqb}
 use lib.ListN.{getD, take, drop}
 use Rattle.model.specs.declared.Flow.{Flow}
@@ -36,11 +36,11 @@ numbersRise s = risingFrom 0 (flowsOf s) && allOf (λ f. leb (f .number) (s .hea
 unfoldable pub endsProper : State → Bool
 endsProper s = allOf (λ f. ltb (f .from) (s .header .containers) && ltb (f .to) (s .header .containers) && not (eqb (f .from) (f .to))) (flowsOf s)
 
--- 'no set names a tag of n or more': no tag set and no policy set
+-- 'no set names a tag of n or more': no tag set, and none of the policy sets that a container has
 unfoldable pub tagsKnown : State → Bool
 tagsKnown s =
     allBelow (s .header .containers) (λ c. not (exceedsOf (setAt (s .storage .tags) c) (s .header .containers)))
-    && allBelow (4 * s .header .containers) (λ k. not (exceedsOf (setAt (s .storage .policies) k) (s .header .containers)))
+    && allBelow (s .header .containers) (λ c. allBelow (getD (s .storage .policyCounts) c 0) (λ k. not (exceedsOf (setAt (s .storage .policies) (4 * c + k)) (s .header .containers))))
 
 -- 'each holder has its own tag'
 unfoldable pub ownTags : State → Bool

@@ -1,22 +1,23 @@
 -- Valid stays valid (document 01, 'Storage': a sound book): a call changes flows and tag sets alone, and keeps what a valid state says of these.
 -- Assumes nothing.
 use mathlib.Core.Path.{_≡_, refl, sym, _∙_, subst}
-use mathlib.Core.Bool.{true, false, false≢true}
+use mathlib.Core.Bool.{true}
 use mathlib.Core.Logic.{_↔_, ⊎-elim}
 use mathlib.Core.List.{List, [], _∷_, _++_, List·Memᴰ·head, List·Memᴰ·tail, List·Memᴰ·not-nil, List·Memᴰ·append-cases, List·Memᴰ·eq-of-singleton}
 use mathlib.Mathlib.Logic.Relation.{ReflTransGenᴰ, ReflTransGenᴰ·refl, ReflTransGenᴰ·tail}
-use Prim.Native.Nat.{ℕ, _+_, _*_, _≤_, _<_}
+use Prim.Native.Nat.{ℕ, _*_, _≤_, _<_}
+use native.Mathlib.Nat.{not-suc-le-zero}
 use native.Mathlib.Omega.{arith}
 use lib.Dec.{eqb}
-use lib.ListN.{length, getD, drop, replicate, length-append}
+use lib.ListN.{length, length-append}
 use borrow.Table.Steps.{cases}
 use borrow.Author.Tests.{eqb-true, eq-eqb}
 use Rattle.model.specs.declared.Flow.{Flow}
 use Rattle.model.specs.Model.{_∈_, edgesOf, without, keep}
 use Rattle.model.specs.Closure.{Within, reaches-sound, reaches-complete}
 use Rattle.model.specs.Standing.{without-part, edge-of, of-edge, within-flows}
-use Rattle.tagset.specs.Set.{has, emptySet, singleOf}
-use Rattle.tagset.specs.Laws.{empty-has, single-has}
+use Rattle.tagset.specs.Set.{has, singleOf}
+use Rattle.tagset.specs.Laws.{single-has}
 use Rattle.state.specs.State.{Storage, State, setAt, flowsOf, withFlows}
 use Rattle.state.specs.Layout.{flows-count, set-written, sets-length, front-length, front-at, flows-length, flows-taken, flows-unused}
 use Rattle.state.specs.IsValid.{IsSized, Rising, unused-iff, ProperEnds, IsValid, Usable}
@@ -220,13 +221,6 @@ disable-usable s k u =
 
 -- STARTING
 
--- a set in a front of zeros has no tag
-zeros-has : (m : ℕ) (ws : List ℕ) (k t : ℕ) → 4 * k + 4 ≤ m → has (setAt (replicate m 0 ++ drop m ws) k) t ≡ false
-unfolding setAt emptySet
-zeros-has m ws k t h =
-    let at : (i : ℕ) → i < m → getD (replicate m 0 ++ drop m ws) i 0 ≡ 0 = λ i l. front-at m 0 ws i 0 l in
-    rw (at (4 * k) (omega arith), at (4 * k + 1) (omega arith), at (4 * k + 2) (omega arith), at (4 * k + 3) (omega arith)) (empty-has t)
-
 -- after a start that no refusal meets each container has its own tag alone
 pub started-has : (n : ℕ) (lent : Storage) → IsSized n lent → (c t : ℕ) → c < n → has (setAt (started n lent .storage .tags) c) t ≡ eqb t c
 unfolding started
@@ -256,7 +250,7 @@ start-usable n lent z =
             not-past = λ f i. absurd (List·Memᴰ·not-nil i);
             ends = λ f i. absurd (List·Memᴰ·not-nil i);
             known-tags = λ c t l h. omega (arith, eqb-true t c (sym (started-has n lent z c t l) ∙ h));
-            known-policies = λ k t l h. absurd (false≢true (sym (zeros-has (16 * n) (lent .policies) k t (omega arith)) ∙ h));
+            known-policies = λ c k t l m h. absurd (not-suc-le-zero (rw (front-at n 0 (lent .policyCounts) c 0 l) at m));
             own = λ c l. started-has n lent z c c l ∙ eq-eqb c c refl;
             carried = λ a b i. absurd (List·Memᴰ·not-nil i);
             unused-flows = unused-iff 512 0 (withFlows [] (lent .flows)) .0 (flows-unused [] (lent .flows) (omega arith));
