@@ -50,6 +50,7 @@ unfolding acceptedFrom
 accepted-from n [] h a = a
 accepted-from n (e ∷ es) h a = accepted-from n es (joined n h e) (joined-cases n h e a)
 
+-- so the accepted history of any events is such
 pub accepted-each : (n : ℕ) (es : List Event) → Accepted n (accepted n es)
 accepted-each n es = accepted-from n es empty none
 

@@ -121,5 +121,6 @@ unfoldable pub acceptedFrom : ℕ → History → List Event → History
 acceptedFrom n h [] = h
 acceptedFrom n h (e ∷ es) = acceptedFrom n (joined n h e) es
 
+-- and from the empty one
 abbrev pub accepted : ℕ → List Event → History
 accepted n es = acceptedFrom n empty es

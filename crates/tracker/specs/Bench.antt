@@ -51,6 +51,7 @@ computed r =
 abbrev gained : ℕ → ℕ × ℕ
 gained k = (0, k)
 
+-- the rows
 unfoldable pub samples : List Sample
 samples =
     -- n 3, no event
@@ -133,16 +134,18 @@ samples =
     }
     ∷ []
 
+-- every row is what the definitions give
 pub samples-hold : map computed samples ≡ samples
 unfolding samples computed answers after those lent edgesOf without keep isEnabled tabulate matrix cell isEdge reachVia hasW bitAt emptySet singleOf unionOf subsetOf exceedsOf countBelow allBelow anyBelow badSize setAt withSets flowsOf withFlows allOf risingFrom inLimits countsInLimits numbersRise endsProper tagsKnown ownTags setsCarried unusedZero validOf decided startOrder started startOf enableOrder unionOver propagated gainOf changed enabling enableOf disableOrder disabling disableOf outcomeOf
 samples-hold = refl
 
--- what starting answers to n in storage for m containers, and what it leaves, word by word, for 1
+-- what starting answers to n in storage for m containers
 pub starts :
     map (λ (p : ℕ × ℕ). startOf (p .0) (lent (p .1)) .answer .refusal) ((0, 3) ∷ (1, 3) ∷ (3, 3) ∷ (4, 3) ∷ (256, 256) ∷ (257, 257) ∷ []) ≡ 9 ∷ 0 ∷ 0 ∷ 9 ∷ 0 ∷ 9 ∷ []
 unfolding lent badSize decided startOrder startOf
 starts = refl
 
+-- and what it leaves, word by word, for 1
 pub started-words :
     startOf 1 (lent 1)
     ≡ record {

@@ -236,7 +236,7 @@ start-gains-nothing n lent = go (firstOf (startOrder n lent) 0)
 
 -- WIDTHS
 
--- where every word of the tag sets has 64 bits, so it is after a start and after every call
+-- where every word of the tag sets has 64 bits, so it is after a start
 pub start-fits : (n : ℕ) (lent : Storage) → Fit64 (lent .tags) → Fit64 (startOf n lent .state .storage .tags)
 unfolding started
 start-fits n lent h = go (startOf n lent .answer .refusal) refl
@@ -245,6 +245,7 @@ start-fits n lent h = go (startOf n lent .answer .refusal) refl
     go zero a = rw (start-leaves n lent a) (sets-fit n singleOf (lent .tags) (λ k l. single-words k) h)
     go (suc k) a = rw (start-refused n lent k a .0) h
 
+-- and after every call
 pub call-fits : (s : State) (c : Call) → Fit64 (s .storage .tags) → Fit64 (outcomeOf s c .state .storage .tags)
 unfolding enabling changed
 call-fits s (ask (enable f)) h = go (outcomeOf s (ask (enable f)) .answer .refusal) refl

@@ -91,6 +91,7 @@ start-number n lent (accepted z) = rw (sized n lent .1 z) refl
 start-row : (n : ℕ) (lent : Storage) → (k : ℕ) × StartAnswers n lent k
 start-row n lent = ⊎-elim (λ z. (0, accepted z)) (λ z. (9, bad-size z)) (size-cases n lent)
 
+-- so the number answered is that of the row that applies
 pub start-answers : (n : ℕ) (lent : Storage) (k : ℕ) → (startOf n lent .answer .refusal ≡ k) ↔ StartAnswers n lent k
 unfolding startOf
 start-answers n lent k =
@@ -100,6 +101,7 @@ start-answers n lent k =
 
 -- ENABLING
 
+-- a row's number is the one answered
 enable-number : (s : State) (f : Flow) {k : ℕ} → EnableAnswers s f k → firstOf (enableOrder s f) 0 ≡ k
 unfolding enableOrder
 enable-number s f (bad-size z) = rw (too-short (s .header .containers) (s .storage) z) refl
@@ -119,7 +121,7 @@ enable-number s f (accepted e) =
     rw (sized-state s (e .usable), valid-state s (e .usable), lt-leb (s .header .containers) (f .from) (e .proper .0), lt-leb (s .header .containers) (f .to) (e .proper .1), ne-eqb (f .from) (f .to) (e .proper .2), lt-leb (f .number) (s .header .greatest) (e .above), lt-leb 512 (s .header .count) (e .room))
     refl
 
--- of a usable state: the ends, the number, the room
+-- some row applies to a usable state: by the ends, the number, the room
 enable-row : (s : State) (f : Flow) → Usable s → (k : ℕ) × EnableAnswers s f k
 enable-row s f u =
     by-cases (decLt (f .from) n)
@@ -141,6 +143,7 @@ enable-row s f u =
         (λ r. (7, table-full u p g (omega (arith, r)))))
         (λ g. (6, stale-number u p (omega (arith, g))))
 
+-- so the number answered is that of the row that applies
 pub enable-answers : (s : State) (f : Flow) (k : ℕ) → (enableOf s f .answer .refusal ≡ k) ↔ EnableAnswers s f k
 unfolding enableOf
 enable-answers s f k =
@@ -154,6 +157,7 @@ enable-answers s f k =
 missing : (k : ℕ) (fs : List Flow) → ((f : Flow) → f ∈ fs → f .number ≢ k) → isEnabled k fs ≡ false
 missing k fs h = cases (isEnabled k fs) (λ e. let w = enabled-number k fs e in absurd (h (w .0) (w .1) (w .2))) (λ e. e)
 
+-- a row's number is the one answered
 disable-number : (s : State) (k : ℕ) {j : ℕ} → DisableAnswers s k j → firstOf (disableOrder s k) 0 ≡ j
 unfolding disableOrder
 disable-number s k (bad-size z) = rw (too-short (s .header .containers) (s .storage) z) refl
@@ -161,12 +165,13 @@ disable-number s k (invalid-state z v) = rw (sized (s .header .containers) (s .s
 disable-number s k (not-enabled u h) = rw (sized-state s u, valid-state s u, missing k (flowsOf s) h) refl
 disable-number s k (accepted u f m q) = rw (sized-state s u, valid-state s u, number-enabled k (flowsOf s) m q) refl
 
--- of a usable state: the number
+-- some row applies to a usable state: by the number
 disable-row : (s : State) (k : ℕ) → Usable s → (j : ℕ) × DisableAnswers s k j
 disable-row s k u =
     cases (isEnabled k (flowsOf s)) (λ e. let w = enabled-number k (flowsOf s) e in (0, accepted u (w .0) (w .1) (w .2)))
     (λ e. (8, not-enabled u (λ f m q. false≢true (sym e ∙ number-enabled k (flowsOf s) m q))))
 
+-- so the number answered is that of the row that applies
 pub disable-answers : (s : State) (k j : ℕ) → (disableOf s k .answer .refusal ≡ j) ↔ DisableAnswers s k j
 unfolding disableOf
 disable-answers s k j =
