@@ -6,6 +6,7 @@ use mathlib.Core.List.{List, [], _∷_, List·Memᴰ·head, List·Memᴰ·tail}
 use Rattle.model.specs.Model.{_∈_, flow, Event, enable, disable, History, empty, _▸_, isEnabled, keep, without, enabled, edgesOf, Execution, begin, event, exec, initial, carry, configuration, greatest, joins, joined, acceptedFrom, accepted}
 use Rattle.model.specs.Reach.{tabulate, matrix, cell, isEdge, reachVia, reachable}
 
+-- truth values, as the rows below have them
 abbrev I : Bool
 I = true
 

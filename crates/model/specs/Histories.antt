@@ -7,10 +7,10 @@ use Prim.Native.Nat.{ℕ, _≤_, _<_}
 use native.Mathlib.Omega.{arith}
 use lib.ListN.{length}
 use Rattle.model.specs.Closure.{Within, reached-inside}
-use Rattle.model.specs.Standing.{enabled-number, number-enabled, without-part, edge-of, of-edge, edge-ends}
+use Rattle.model.specs.Standing.{enabled-number, number-enabled, without-part, within-flows}
 use Rattle.truth.specs.Truth.{and-iff, not-iff, lt-iff, ne-iff}
 use Rattle.model.specs.declared.Flow.{Flow}
-use Rattle.model.specs.Model.{_∈_, Event, enable, disable, History, empty, _▸_, without, enabled, edges, edgesOf, Enabled*, Flows, own, next}
+use Rattle.model.specs.Model.{_∈_, Event, enable, disable, History, empty, _▸_, enabled, edgesOf, Enabled*, Flows, own, next}
 use Rattle.model.specs.Model.{greatest, joins, joined, acceptedFrom, accepted}
 
 -- FLOWS: 'for the empty history it is the start', Enabled* for one event, and Flows · Enabled* for one more
@@ -28,7 +28,13 @@ flows-next n h e t c = (fore, λ p. next e (p .1) (p .2))
     fore (next {a = a} e p q) = (a, p, q)
 
 pub flows-one : (n : ℕ) (e : Event) (t c : ℕ) → Flows n (empty ▸ e) t c ↔ ((t < n) × Enabled* (empty ▸ e) t c)
-flows-one n e t c = (λ p. let r = flows-next n empty e t c .0 p in let s = flows-empty n t (r .0) .0 (r .1) in (omega (arith, s .0, s .1), subst (λ (x : ℕ). Enabled* (empty ▸ e) x c) (sym (s .0)) (r .2)), λ p. next e (own (p .0)) (p .1))
+flows-one n e t c = (fore, λ p. next e (own (p .0)) (p .1))
+  where
+    fore : Flows n (empty ▸ e) t c → (t < n) × Enabled* (empty ▸ e) t c
+    fore p =
+        let r = flows-next n empty e t c .0 p in
+        let s = flows-empty n t (r .0) .0 (r .1) in
+        (omega (arith, s .0, s .1), subst (λ (x : ℕ). Enabled* (empty ▸ e) x c) (sym (s .0)) (r .2))
 
 -- THE ACCEPTED HISTORY: each event of it joined what was accepted before
 
@@ -131,33 +137,24 @@ unfoldable pub Inside : ℕ → History → Type 0
 Inside n empty = Unit {0}
 Inside n (h ▸ e) = Inside n h × Within n (edgesOf (enabled (h ▸ e)))
 
--- so they have at its end
-inside-last : (n : ℕ) (h : History) → Inside n h → Within n (edgesOf (enabled h))
-unfolding Inside enabled edgesOf
-inside-last n empty i = λ a b m. absurd (List·Memᴰ·not-nil m)
-inside-last n (h ▸ e) i = i .1
-
--- and Flows relates to containers below n alone
+-- so Flows relates to containers below n alone
 pub flows-inside : {n : ℕ} {h : History} {t c : ℕ} → Inside n h → Flows n h t c → c < n
 unfolding Inside
 flows-inside i (own l) = l
 flows-inside {n} i (next {h} e p q) = reached-inside n (edgesOf (enabled (h ▸ e))) (i .1) (flows-inside (i .0) p) q
 
--- an accepted history is one of these
+-- the enabled flows of an accepted history have their ends below n
+enabled-ends : {n : ℕ} {h : History} → Accepted n h → (f : Flow) → f ∈ enabled h → (f .from < n) × (f .to < n)
+unfolding enabled
+enabled-ends none f i = absurd (List·Memᴰ·not-nil i)
+enabled-ends {n} (more {h} a (enable g) q) f i =
+    let m = enable-joins n h g .0 q in
+    ⊎-elim (enabled-ends a f) (λ j. subst (λ (x : Flow). (x .from < n) × (x .to < n)) (sym (List·Memᴰ·eq-of-singleton j)) (m .from-below, m .to-below))
+    (List·Memᴰ·append-cases (enabled h) i)
+enabled-ends (more {h} a (disable k) q) f i = enabled-ends a f (without-part k (enabled h) i)
+
+-- so it is one of these
 pub accepted-inside : {n : ℕ} {h : History} → Accepted n h → Inside n h
-unfolding Inside enabled
+unfolding Inside
 accepted-inside none = tt
-accepted-inside {n} (more {h} a (enable f) q) = let i = accepted-inside a in (i, within i (enable-joins n h f .0 q))
-  where
-    within : Inside n h → MayEnable n h f → Within n (edgesOf (enabled h ++ (f ∷ [])))
-    within i m x y j = pick (edge-of (enabled h ++ (f ∷ [])) j)
-      where
-        pick : (g : Flow) × (g ∈ enabled h ++ (f ∷ [])) × ((x, y) ∈ edges g) → (x < n) × (y < n)
-        pick (g, u, v) =
-            ⊎-elim (λ k. inside-last n h i x y (of-edge (enabled h) k v)) (λ k. new (List·Memᴰ·eq-of-singleton k)) (List·Memᴰ·append-cases (enabled h) u)
-          where
-            new : g ≡ f → (x < n) × (y < n)
-            new e = let r = edge-ends f (subst (λ (z : Flow). (x, y) ∈ edges z) e v) in (omega (arith, r .0, m .from-below), omega (arith, r .1, m .to-below))
-accepted-inside {n} (more {h} a (disable k) q) =
-    let i = accepted-inside a in
-    (i, λ x y j. let w = edge-of (without k (enabled h)) j in inside-last n h i x y (of-edge (enabled h) (without-part k (enabled h) (w .1)) (w .2)))
+accepted-inside {n} (more {h} a e q) = (accepted-inside a, within-flows n (enabled (h ▸ e)) (enabled-ends (more a e q)))

@@ -14,7 +14,7 @@ use borrow.Table.Steps.{cases}
 use borrow.Author.Tests.{ltb-true, lt-ltb, eqb-true, eq-eqb}
 use Rattle.truth.specs.Truth.{iff, and-both, both-and, left-or, right-or, or-and-iff}
 use Rattle.model.specs.declared.Flow.{Flow}
-use Rattle.model.specs.Model.{_∈_, Event, History, empty, _▸_, edgesOf, edgesOf, enabled, Enabled, Enabled*, Flows, own, next}
+use Rattle.model.specs.Model.{_∈_, Event, History, empty, _▸_, edgesOf, enabled, Enabled, Enabled*, Flows, own, next}
 use Rattle.model.specs.Reach.{reaches}
 use Rattle.model.specs.Closure.{Within, reaches-sound, reaches-complete}
 use Rattle.model.specs.Histories.{Inside, flows-next, flows-inside}
@@ -104,7 +104,7 @@ carry-mono a b {θ} {θ'} m c t q =
     or-and-iff (θ' c t) (eqb c b) (θ' a t) .1
     (⊎-elim (λ p. inl (m c t p)) (λ p. inr (p .0, m a t (p .1))) (or-and-iff (θ c t) (eqb c b) (θ a t) .0 q))
 
--- behind an event: the flows executed there, the rest by f
+-- behind an event: the flows executed there, before it what g makes
 behind : {h : History} {e : Event} → (Execution h → Execution h) → Execution (h ▸ e) → Execution (h ▸ e)
 behind g (event y e) = event (g y) e
 behind g (exec y f i a b j) = exec (behind g y) f i a b j
@@ -237,9 +237,8 @@ event-changes-nothing n x e = refl
 -- an execution of an enabled flow adds the tags of its one end to those of its other, and changes nothing else
 pub exec-adds : (n : ℕ) {h : History} (x : Execution h) (f : Flow) (i : f ∈ enabled h) (c t : ℕ)
     → (configuration n (exec x f i (f .from) (f .to) (ends-edge f)) c t ≡ true) ↔ ((configuration n x c t ≡ true) ⊎ ((c ≡ f .to) × (configuration n x (f .from) t ≡ true)))
-unfolding configuration carry
-exec-adds n x f i c t =
-    let r = or-and-iff (configuration n x c t) (eqb c (f .to)) (configuration n x (f .from) t) in (
-      λ q. ⊎-elim (λ p. inl p) (λ p. inr (eqb-true c (f .to) (p .0), p .1)) (r .0 q),
-      λ s. r .1 (⊎-elim (λ p. inl p) (λ p. inr (eq-eqb c (f .to) (p .0), p .1)) s),
-    )
+unfolding configuration
+exec-adds n x f i c t = (
+  carry-is (f .from) (f .to) (configuration n x) c t,
+  ⊎-elim (carry-keeps (f .from) (f .to) (configuration n x) c t) (λ p. rw (p .0) (carry-brings (f .from) (f .to) (configuration n x) t (p .1))),
+)

@@ -25,14 +25,14 @@ all-below-iff : (n : ℕ) (f : ℕ → Bool) → (allBelow n f ≡ true) ↔ ((k
 all-below-iff n f = (all-at n f, all-make n f)
 
 -- where all elements pass, each does
-pub all-of-member : {A : Type 0} (p : A → Bool) (xs : List A) → allOf p xs ≡ true → {x : A} → x ∈ xs → p x ≡ true
+all-of-member : {A : Type 0} (p : A → Bool) (xs : List A) → allOf p xs ≡ true → {x : A} → x ∈ xs → p x ≡ true
 unfolding allOf
 all-of-member p [] e m = elim m [ ]
 all-of-member p (y ∷ ys) e (List·Memᴰ·head q) = ap p q ∙ and-both (p y) (allOf p ys) e .0
 all-of-member p (y ∷ ys) e (List·Memᴰ·tail m) = all-of-member p ys (and-both (p y) (allOf p ys) e .1) m
 
 -- and where each does, all do
-pub member-all-of : {A : Type 0} (p : A → Bool) (xs : List A) → ((x : A) → x ∈ xs → p x ≡ true) → allOf p xs ≡ true
+member-all-of : {A : Type 0} (p : A → Bool) (xs : List A) → ((x : A) → x ∈ xs → p x ≡ true) → allOf p xs ≡ true
 unfolding allOf
 member-all-of p [] h = refl
 member-all-of p (y ∷ ys) h = and-iff (p y) (allOf p ys) .1 (h y (List·Memᴰ·head refl), member-all-of p ys (λ x m. h x (List·Memᴰ·tail m)))

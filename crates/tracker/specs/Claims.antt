@@ -267,9 +267,9 @@ flows-of-one-event-more = flows-next
 pub an-event-changes-no-set : (n : ℕ) {h : History} (x : Execution h) (e : Event) → configuration n (event x e) ≡ configuration n x
 an-event-changes-no-set = event-changes-nothing
 
-pub a-passage-adds-tags : (n : ℕ) {h : History} (x : Execution h) (f : Flow) (i : f ∈ enabled h) (c t : ℕ)
+pub an-exec-adds-tags : (n : ℕ) {h : History} (x : Execution h) (f : Flow) (i : f ∈ enabled h) (c t : ℕ)
     → (configuration n (exec x f i (f .from) (f .to) (ends-edge f)) c t ≡ true) ↔ ((configuration n x c t ≡ true) ⊎ ((c ≡ f .to) × (configuration n x (f .from) t ≡ true)))
-a-passage-adds-tags = exec-adds
+an-exec-adds-tags = exec-adds
 
 -- Proposition 1 (soundness): where an execution of a history has put a tag, Flows relates the two
 pub no-flow-is-missed : (n : ℕ) {h : History} (x : Execution h) (c t : ℕ) → configuration n x c t ≡ true → Flows n h t c

@@ -1,4 +1,4 @@
--- What a call leaves alone: storage past the lengths in use, lengths, n, policy sets; and its gain counted from the sets. Assumes nothing.
+-- What a call leaves alone: storage past the lengths in use, lengths, n, 64 bits; and its gain counted from the sets. Assumes nothing.
 use mathlib.Core.Path.{_≡_, refl, sym, ap, _∙_, subst}
 use mathlib.Core.Bool.{Bool, true, false, _&&_, not}
 use mathlib.Core.List.{List, [], _∷_, _++_}
@@ -16,7 +16,7 @@ use Rattle.state.specs.State.{Storage, State, setAt, flowsOf}
 use Rattle.state.specs.Layout.{Fit64, sets-fit, sets-length, sets-beyond, front-length, front-beyond, flows-length, flows-beyond}
 use Rattle.state.specs.IsValid.{IsSized, Usable}
 use Rattle.tracker.specs.Outcome.{decided, noHeader, startOrder, started, startOf, propagated, gainOf, changed, enabling, disabling, enableOrder, enableOf, disableOrder, disableOf, Call, ask, outcomeOf, after}
-use Rattle.tracker.specs.Refusals.{call-refused, start-refused}
+use Rattle.tracker.specs.Refusals.{start-cases, call-cases}
 use Rattle.tracker.specs.Propagation.{propagated-fits}
 use Rattle.tracker.specs.Stays.{usable-count, without-length, propagated-length}
 use Rattle.tracker.specs.Steps.{Sentence, enable-sentence, start-accepted, enable-accepted, disable-accepted, start-leaves, enable-leaves, disable-leaves}
@@ -83,11 +83,8 @@ started-beyond n lent z =
 
 -- a start leaves alone what lies past the lengths that n containers use
 pub start-beyond : (n : ℕ) (lent : Storage) → SameBeyond n (startOf n lent .state .storage) lent
-start-beyond n lent = go (startOf n lent .answer .refusal) refl
-  where
-    go : (r : ℕ) → startOf n lent .answer .refusal ≡ r → SameBeyond n (startOf n lent .state .storage) lent
-    go zero a = rw (start-leaves n lent a) (started-beyond n lent (start-accepted n lent .0 a))
-    go (suc k) a = rw (start-refused n lent k a .0) (beyond-refl n lent)
+start-beyond n lent =
+    start-cases (λ x. SameBeyond n x lent) n lent (λ a. rw (start-leaves n lent a) (started-beyond n lent (start-accepted n lent .0 a))) (beyond-refl n lent)
 
 -- CALLS
 
@@ -108,10 +105,10 @@ changed-beyond s fs greatest tags u few same beyond =
       flows-beyond = flows-beyond fs (s .storage .flows) few;
     }
 
--- so does every call
+-- so is the state that a call leaves
 pub call-beyond : (s : State) (c : Call) → SameBeyond (s .header .containers) (outcomeOf s c .state .storage) (s .storage)
 unfolding enabling disabling
-call-beyond s c = go (outcomeOf s c .answer .refusal) refl
+call-beyond s c = call-cases (λ x. SameBeyond (s .header .containers) (x .storage) (s .storage)) s c (accepted c) (beyond-refl (s .header .containers) (s .storage))
   where
     accepted : (c : Call) → outcomeOf s c .answer .refusal ≡ 0 → SameBeyond (s .header .containers) (outcomeOf s c .state .storage) (s .storage)
     accepted (ask (enable f)) a =
@@ -127,10 +124,6 @@ call-beyond s c = go (outcomeOf s c .answer .refusal) refl
         (changed-beyond s (without k (flowsOf s)) (s .header .greatest) (s .storage .tags) u
         (omega (arith, without-length k (flowsOf s), usable-count s u, u .valid .table-count)) refl refl)
 
-    go : (r : ℕ) → outcomeOf s c .answer .refusal ≡ r → SameBeyond (s .header .containers) (outcomeOf s c .state .storage) (s .storage)
-    go zero a = accepted c a
-    go (suc k) a = rw (call-refused s c k a .0) (beyond-refl (s .header .containers) (s .storage))
-
 -- what the work keeps, the outcome keeps
 decided-keeps : {A : Type 0} (get : State → A) (r : ℕ) (s : State) (gain : ℕ) (s' : State) → get s' ≡ get s → get (decided r s gain s' .state) ≡ get s
 unfolding decided
@@ -144,7 +137,7 @@ event-containers s (enable f) = decided-keeps (λ s. s .header .containers) (fir
 event-containers s (disable k) = decided-keeps (λ s. s .header .containers) (firstOf (disableOrder s k) 0) s _ _ refl
 
 -- over a list of calls the storage past the lengths in use stays too
-pub calls-beyond : (cs : List Call) (s : State) → SameBeyond (s .header .containers) (after s cs .storage) (s .storage)
+calls-beyond : (cs : List Call) (s : State) → SameBeyond (s .header .containers) (after s cs .storage) (s .storage)
 unfolding after
 calls-beyond [] s = beyond-refl (s .header .containers) (s .storage)
 calls-beyond (ask e ∷ cs) s =
@@ -213,13 +206,12 @@ pub enable-gain : (s : State) (f : Flow)
     → totalOf (s .header .containers) (s .storage .tags) + outcomeOf s (ask (enable f)) .answer .gain
     ≡ totalOf (s .header .containers) (outcomeOf s (ask (enable f)) .state .storage .tags)
 enable-gain s f =
-    rw (gain-counted s (ask (enable f)))
-    (gain-total (s .header .containers) (s .storage .tags) (outcomeOf s (ask (enable f)) .state .storage .tags) (go (outcomeOf s (ask (enable f)) .answer .refusal) refl))
+    rw (gain-counted s (ask (enable f))) (gain-total (s .header .containers) (s .storage .tags) (outcomeOf s (ask (enable f)) .state .storage .tags) grows)
   where
-    go : (r : ℕ) → outcomeOf s (ask (enable f)) .answer .refusal ≡ r → (c : ℕ) → c < s .header .containers
-        → subsetOf (setAt (s .storage .tags) c) (setAt (outcomeOf s (ask (enable f)) .state .storage .tags) c) ≡ true
-    go zero a = sentence-grows s (outcomeOf s (ask (enable f)) .state) (enable-sentence s f a)
-    go (suc k) a = rw (call-refused s (ask (enable f)) k a .0) (λ c l. subset-refl (setAt (s .storage .tags) c))
+    grows : (c : ℕ) → c < s .header .containers → subsetOf (setAt (s .storage .tags) c) (setAt (outcomeOf s (ask (enable f)) .state .storage .tags) c) ≡ true
+    grows =
+        call-cases (λ x. (c : ℕ) → c < s .header .containers → subsetOf (setAt (s .storage .tags) c) (setAt (x .storage .tags) c) ≡ true) s (ask (enable f))
+        (λ a. sentence-grows s (outcomeOf s (ask (enable f)) .state) (enable-sentence s f a)) (λ c l. subset-refl (setAt (s .storage .tags) c))
 
 -- and a disable gains 0
 pub disable-gain : (s : State) (k : ℕ) → outcomeOf s (ask (disable k)) .answer .gain ≡ 0
@@ -239,18 +231,13 @@ start-gains-nothing n lent = go (firstOf (startOrder n lent) 0)
 -- where every word of the tag sets has 64 bits, so it is after a start
 pub start-fits : (n : ℕ) (lent : Storage) → Fit64 (lent .tags) → Fit64 (startOf n lent .state .storage .tags)
 unfolding started
-start-fits n lent h = go (startOf n lent .answer .refusal) refl
-  where
-    go : (r : ℕ) → startOf n lent .answer .refusal ≡ r → Fit64 (startOf n lent .state .storage .tags)
-    go zero a = rw (start-leaves n lent a) (sets-fit n singleOf (lent .tags) (λ k l. single-words k) h)
-    go (suc k) a = rw (start-refused n lent k a .0) h
+start-fits n lent h =
+    start-cases (λ x. Fit64 (x .tags)) n lent (λ a. rw (start-leaves n lent a) (sets-fit n singleOf (lent .tags) (λ k l. single-words k) h)) h
 
 -- and after every call
 pub call-fits : (s : State) (c : Call) → Fit64 (s .storage .tags) → Fit64 (outcomeOf s c .state .storage .tags)
 unfolding enabling changed
-call-fits s (ask (enable f)) h = go (outcomeOf s (ask (enable f)) .answer .refusal) refl
-  where
-    go : (r : ℕ) → outcomeOf s (ask (enable f)) .answer .refusal ≡ r → Fit64 (outcomeOf s (ask (enable f)) .state .storage .tags)
-    go zero a = rw (enable-leaves s f a) (propagated-fits (s .header .containers) (flowsOf s ++ (f ∷ [])) (s .storage .tags) h)
-    go (suc k) a = rw (call-refused s (ask (enable f)) k a .0) h
+call-fits s (ask (enable f)) h =
+    call-cases (λ x. Fit64 (x .storage .tags)) s (ask (enable f))
+    (λ a. rw (enable-leaves s f a) (propagated-fits (s .header .containers) (flowsOf s ++ (f ∷ [])) (s .storage .tags) h)) h
 call-fits s (ask (disable k)) h = rw (disable-tags s k) h

@@ -1,10 +1,10 @@
 -- The tracker follows the accepted history: after each call its flows, its greatest number and its sets are those of the history. Assumes nothing.
 use mathlib.Core.Path.{_≡_, refl, sym, ap, _∙_, subst}
-use mathlib.Core.Bool.{true, false, false≢true}
+use mathlib.Core.Bool.{true, false≢true}
 use mathlib.Core.List.{List, [], _∷_, _++_}
 use mathlib.Core.Logic.{_↔_, Iff·rfl}
 use mathlib.Mathlib.Logic.Relation.{ReflTransGenᴰ}
-use Prim.Native.Nat.{ℕ, zero, suc, _<_}
+use Prim.Native.Nat.{ℕ, _<_}
 use native.Mathlib.Omega.{arith}
 use lib.Dec.{eqb}
 use lib.ListN.{length}
@@ -19,7 +19,7 @@ use Rattle.tagset.specs.Set.{has}
 use Rattle.state.specs.State.{Storage, State, setAt, flowsOf}
 use Rattle.state.specs.IsValid.{IsSized, Usable}
 use Rattle.tracker.specs.Outcome.{started, startOf, Call, ask, outcomeOf, eventsOf, after, configurationOf}
-use Rattle.tracker.specs.Refusals.{call-refused}
+use Rattle.tracker.specs.Refusals.{call-cases}
 use Rattle.tracker.specs.Table.{Enables}
 use Rattle.tracker.specs.Stays.{usable-count, started-has, start-usable, flows-within}
 use Rattle.tracker.specs.Steps.{start-accepted, enable-accepted, disable-accepted, start-leaves, event-leaves-usable, Sentence, enable-sentence, disable-sentence, enable-flows, disable-flows}
@@ -143,11 +143,8 @@ pub call-follows : (n : ℕ) (h : History) (s : State) (e : Event) → Follows n
 call-follows n h s e w =
     cases (joins n h e)
     (λ j. rw (joins-added n h e j) (subst (λ (m : ℕ). Follows m h s → joins m h e ≡ true → Follows m (h ▸ e) (outcomeOf s (ask e) .state)) (w .size) (event-joins h s e) w j))
-    (λ j. rw (not-joins-same n h e j) (refused j (outcomeOf s (ask e) .answer .refusal) refl))
-  where
-    refused : joins n h e ≡ false → (r : ℕ) → outcomeOf s (ask e) .answer .refusal ≡ r → Follows n h (outcomeOf s (ask e) .state)
-    refused j zero a = absurd (false≢true (sym j ∙ accepted-joins n h s e w .0 a))
-    refused j (suc k) a = subst (λ (x : State). Follows n h x) (sym (call-refused s (ask e) k a .0)) w
+    (λ j. rw (not-joins-same n h e j)
+    (call-cases (λ x. Follows n h x) s (ask e) (λ a. absurd (false≢true (sym j ∙ accepted-joins n h s e w .0 a))) w))
 
 -- and so after a list of calls
 pub calls-follow : (n : ℕ) (cs : List Call) (h : History) (s : State) → Follows n h s → Follows n (acceptedFrom n h (eventsOf cs)) (after s cs)

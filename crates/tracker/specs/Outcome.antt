@@ -77,7 +77,7 @@ unionOver zero p f = emptySet
 unionOver (suc n) p f = let rest = unionOver n p f in cond (p n) (unionOf (f n) rest) rest
 
 -- (spread) 'holder b has tag t exactly if some holder a had t before the event and b can be reached from a by zero or more channels open after
--- the event': `cell m a b` is `reaches n (edgesOf fs) a b`, the table computed once
+-- the event': `cell m a b` is `reaches n (edgesOf fs) a b`, with the matrix computed once
 unfoldable pub propagated : ℕ → List Flow → List ℕ → List ℕ
 propagated n fs ws = let m = reachable n (edgesOf fs) in withSets n (λ b. unionOver n (λ a. cell m a b) (setAt ws)) ws
 

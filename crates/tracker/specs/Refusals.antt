@@ -11,7 +11,7 @@ use Rattle.state.specs.State.{Storage, State}
 use Rattle.tracker.specs.Outcome.{decided, noHeader, startOrder, started, startOf, enableOf, disableOf, Call, ask, outcomeOf, orderOf}
 
 -- a number is answered exactly if it stands beside the first condition that holds
-pub first-number : (cs : List (Bool × ℕ)) (k : ℕ) → (firstOf cs 0 ≡ suc k) ↔ IsFirst cs (suc k)
+first-number : (cs : List (Bool × ℕ)) (k : ℕ) → (firstOf cs 0 ≡ suc k) ↔ IsFirst cs (suc k)
 first-number cs k = (λ e. pick e (first-cases cs 0), λ h. first-is cs 0 h)
   where
     pick : firstOf cs 0 ≡ suc k → NoneHolds cs ⊎ IsFirst cs (firstOf cs 0) → IsFirst cs (suc k)
@@ -25,7 +25,7 @@ decided-number zero s gain s' = refl
 decided-number (suc k) s gain s' = refl
 
 -- where that is not 0, the state is the one before and nothing is gained
-pub decided-refused : (r : ℕ) (s : State) (gain : ℕ) (s' : State) (k : ℕ) → decided r s gain s' .answer .refusal ≡ suc k
+decided-refused : (r : ℕ) (s : State) (gain : ℕ) (s' : State) (k : ℕ) → decided r s gain s' .answer .refusal ≡ suc k
     → (decided r s gain s' .state ≡ s) × (decided r s gain s' .answer .gain ≡ 0)
 unfolding decided
 decided-refused zero s gain s' k e = absurd (suc-ne-zero k (sym e))
@@ -39,7 +39,7 @@ decided-done zero s gain s' e = (refl, refl)
 decided-done (suc r) s gain s' e = absurd (suc-ne-zero r e)
 
 -- every outcome is decided by the call's order
-pub outcome-decided : (s : State) (c : Call) → (gain : ℕ) × (s' : State) × (outcomeOf s c ≡ decided (firstOf (orderOf s c) 0) s gain s')
+outcome-decided : (s : State) (c : Call) → (gain : ℕ) × (s' : State) × (outcomeOf s c ≡ decided (firstOf (orderOf s c) 0) s gain s')
 unfolding outcomeOf orderOf enableOf disableOf
 outcome-decided s (ask (enable f)) = (_, _, refl)
 outcome-decided s (ask (disable k)) = (_, _, refl)
@@ -63,3 +63,19 @@ start-refused n lent k = decided-refused (firstOf (startOrder n lent) 0) (record
 
 pub call-refused : (s : State) (c : Call) (k : ℕ) → outcomeOf s c .answer .refusal ≡ suc k → (outcomeOf s c .state ≡ s) × (outcomeOf s c .answer .gain ≡ 0)
 call-refused s c k = let w = outcome-decided s c in rw (w .2) (decided-refused (firstOf (orderOf s c) 0) s (w .0) (w .1) k)
+
+-- so what holds before a call, and after it where it is accepted, holds after it
+pub start-cases : (P : Storage → Type 0) (n : ℕ) (lent : Storage) → (startOf n lent .answer .refusal ≡ 0 → P (startOf n lent .state .storage)) → P lent
+    → P (startOf n lent .state .storage)
+start-cases P n lent f p = go (startOf n lent .answer .refusal) refl
+  where
+    go : (r : ℕ) → startOf n lent .answer .refusal ≡ r → P (startOf n lent .state .storage)
+    go zero a = f a
+    go (suc k) a = rw (start-refused n lent k a .0) p
+
+pub call-cases : (P : State → Type 0) (s : State) (c : Call) → (outcomeOf s c .answer .refusal ≡ 0 → P (outcomeOf s c .state)) → P s → P (outcomeOf s c .state)
+call-cases P s c f p = go (outcomeOf s c .answer .refusal) refl
+  where
+    go : (r : ℕ) → outcomeOf s c .answer .refusal ≡ r → P (outcomeOf s c .state)
+    go zero a = f a
+    go (suc k) a = rw (call-refused s c k a .0) p

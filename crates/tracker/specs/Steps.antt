@@ -4,7 +4,7 @@ use mathlib.Core.Bool.{true}
 use mathlib.Core.List.{List, [], _∷_, _++_}
 use mathlib.Core.Logic.{_↔_, _≢_, Iff·rfl, Iff·symm, Iff·trans}
 use mathlib.Mathlib.Logic.Relation.{ReflTransGenᴰ}
-use Prim.Native.Nat.{ℕ, zero, suc, _*_, _<_}
+use Prim.Native.Nat.{ℕ, _*_, _<_}
 use native.Mathlib.Omega.{arith}
 use lib.Dec.{eqb}
 use lib.ListN.{length, getD}
@@ -18,7 +18,7 @@ use Rattle.state.specs.State.{Storage, State, setAt, flowsOf, noFlow}
 use Rattle.state.specs.Layout.{front-at}
 use Rattle.state.specs.IsValid.{IsSized, Usable}
 use Rattle.tracker.specs.Outcome.{noHeader, startOrder, started, startOf, propagated, changed, enabling, disabling, enableOrder, enableOf, disableOrder, disableOf, Call, ask, outcomeOf}
-use Rattle.tracker.specs.Refusals.{decided-done, call-refused}
+use Rattle.tracker.specs.Refusals.{decided-done, call-cases}
 use Rattle.tracker.specs.Table.{Enables, StartAnswers, start-answers, EnableAnswers, enable-answers, DisableAnswers, disable-answers, bad-size, invalid-state, accepted}
 use Rattle.tracker.specs.Propagation.{propagated-has}
 use Rattle.tracker.specs.Stays.{changed-flows, started-has, start-usable, enable-usable, disable-usable, flows-within, settled}
@@ -78,11 +78,7 @@ event-leaves-usable s (disable k) = disable-leaves-usable s k
 
 -- so what every usable state has, every call keeps
 pub call-keeps : (P : State → Type 0) (s : State) (c : Call) → ((s : State) → Usable s → P s) → P s → P (outcomeOf s c .state)
-call-keeps P s c f p = go c (outcomeOf s c .answer .refusal) refl
-  where
-    go : (c : Call) (r : ℕ) → outcomeOf s c .answer .refusal ≡ r → P (outcomeOf s c .state)
-    go (ask e) zero a = f (outcomeOf s (ask e) .state) (event-leaves-usable s e a)
-    go c (suc k) a = rw (call-refused s c k a .0) p
+call-keeps P s (ask e) f p = call-cases P s (ask e) (λ a. f (outcomeOf s (ask e) .state) (event-leaves-usable s e a)) p
 
 -- a usable state is refused with neither 9 nor 12
 pub usable-answers : (s : State) (e : Event) → Usable s → (outcomeOf s (ask e) .answer .refusal ≢ 9) × (outcomeOf s (ask e) .answer .refusal ≢ 12)
