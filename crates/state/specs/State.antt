@@ -22,6 +22,13 @@ pub record State : Type 0 where
   pub header : Header
   pub storage : Storage
 
+-- the storage of four lists, and the state with this header
+abbrev pub storageOf : List ℕ → List ℕ → List ℕ → List Flow → Storage
+storageOf tags policies counts flows = record { tags = tags; policies = policies; policyCounts = counts; flows = flows }
+
+abbrev pub stateOf : Header → List ℕ → List ℕ → List ℕ → List Flow → State
+stateOf header tags policies counts flows = record { header = header; storage = storageOf tags policies counts flows }
+
 -- 9: 'n is 0 or above 256, or storage shorter than above'
 unfoldable pub badSize : ℕ → Storage → Bool
 badSize n lent =

@@ -1,0 +1,2 @@
+pub mod FlowTable
+pub mod Laws

@@ -1,0 +1,60 @@
+// The table of enabled flows, 512 records by value: find, append, remove. Every function answers for any count, place and content.
+use model::Flow;
+ghost use mathlib.Core.Path.{_≡_};
+ghost use lib.ListN.{set, take};
+ghost use Rattle.flowtable.specs.FlowTable.{foundIn, removedAt};
+
+// Where a flow stands in the table.
+pub enum Found {
+    At(u32),
+    Absent,
+}
+
+// Finds the flow of this number among the first `count` records.
+pub fn find(flows: [Flow; 512], count: u32, number: u32) -> Found
+    ensures { λ r. ⌜ r ≡ foundIn number (take count flows) ⌝ }
+{
+    let mut k: u32 = 0;
+    while k < count && k < 512 {
+        let i = k as usize;
+        let f = flows[i];
+        if f.number == number {
+            return Found::At(k);
+        }
+        k += 1;
+    }
+    Found::Absent
+}
+
+// The table with the flow in this place; unchanged where there is no such place.
+pub fn append(mut flows: [Flow; 512], place: u32, flow: Flow) -> [Flow; 512]
+    ensures { λ r. ⌜ r ≡ set flows place flow ⌝ }
+{
+    if place < 512 {
+        let i = place as usize;
+        flows[i] = flow;
+    }
+    flows
+}
+
+// The table without the record in this place of the first `count`: the later ones of these move down by one, and the last becomes zero.
+// Unchanged where they have no such place.
+pub fn remove(mut flows: [Flow; 512], count: u32, place: u32) -> [Flow; 512]
+    ensures { λ r. ⌜ r ≡ removedAt place count flows ⌝ }
+{
+    let end = if count < 512 { count as usize } else { 512 };
+    let mut i = place as usize;
+    if end <= i {
+        return flows;
+    }
+    while i + 1 < end {
+        flows[i] = flows[i + 1];
+        i += 1;
+    }
+    flows[i] = Flow {
+        number: 0,
+        from: 0,
+        to: 0,
+    };
+    flows
+}

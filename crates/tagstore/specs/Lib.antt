@@ -1,0 +1,3 @@
+pub mod Store
+pub mod Laws
+pub mod Starting
