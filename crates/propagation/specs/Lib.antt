@@ -1,0 +1,4 @@
+pub mod Pass
+pub mod Bench
+pub mod Turns
+pub mod Exact

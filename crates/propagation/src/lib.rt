@@ -1,0 +1,93 @@
+// Tags carried along the enabled flows (document 01: the spread), pass by pass, up to the first pass that adds none.
+use model::Flow;
+use tagset::TagSet;
+ghost use mathlib.Core.Path.{_≡_};
+ghost use mathlib.Core.List.{_++_};
+ghost use Prim.Native.Nat.{_+_, _*_, _≤_};
+ghost use lib.ListN.{length, take, drop};
+ghost use Rattle.model.specs.Model.{edgesOf};
+ghost use Rattle.tagstore.specs.Store.{totalOf};
+ghost use Rattle.propagation.specs.Pass.{carried, passed, passesOf, passesOver, passedOver, addedOver};
+
+// The (tag, container) pairs that propagation added, and how many passes it made, the last included.
+pub struct Propagated {
+    pub gain: u32,
+    pub passes: u32,
+}
+
+// Carries the tags of the first `containers` sets along the first `count` flows. It answers for any numbers and words: sets that the words do not
+// have, and those past the 256th, are left out, and so is a flow with such an end.
+pub fn propagate(tags: &mut [u64], containers: u32, flows: [Flow; 512], count: u32) -> Propagated
+    ensures sets { λ r. ⌜ now (tags .exit) ≡ passedOver containers (take count flows) (now (tags .entry)) ⌝ }
+    ensures passes { λ r. ⌜ r .passes ≡ passesOver containers (take count flows) (now (tags .entry)) ⌝ }
+    ensures gain { λ r. ⌜ r .gain ≡ addedOver containers (take count flows) (now (tags .entry)) ⌝ }
+{
+    let sets = tags.len() / 4;
+    let most = if sets < 256 { sets as u32 } else { 256 };
+    let n = if containers < most { containers } else { most };
+    let last = if count < 512 { count } else { 512 };
+    make_passes(tags, n, flows, last)
+}
+
+// Passes over the flows, up to the first that adds nothing. Within a pass each flow reads the sets as the pass found them.
+fn make_passes(tags: &mut [u64], n: u32, flows: [Flow; 512], count: u32) -> Propagated
+    requires { ⌜ (n ≤ 256) × (4 * n ≤ length (now tags)) × (count ≤ 512) ⌝ }
+    ensures sets { λ r. ⌜ now (tags .exit) ≡ passed (passesOf n (edgesOf (take count flows)) (now (tags .entry))) n (edgesOf (take count flows)) (now (tags .entry)) ⌝ }
+    ensures passes { λ r. ⌜ r .passes ≡ passesOf n (edgesOf (take count flows)) (now (tags .entry)) ⌝ }
+    ensures gain { λ r. ⌜ totalOf n (now (tags .entry)) + r .gain ≡ totalOf n (now (tags .exit)) ⌝ }
+{
+    let mut found = [0u64; 1024];
+    let mut gain: u32 = 0;
+    let mut passes: u32 = 0;
+    'passes: loop {
+        copy_sets(tags, &mut found, n);
+        let mut added: u32 = 0;
+        let mut k: usize = 0;
+        while k < count as usize {
+            let f = flows[k];
+            added += carry(&found, tags, n, f.from, f.to);
+            k += 1;
+        }
+        passes += 1;
+        gain += added;
+        if added == 0 {
+            break 'passes;
+        }
+    }
+    Propagated { gain, passes }
+}
+
+// Carries along one way: container b gets the tags that container a had when the pass began. Answers how many are new to b.
+fn carry(found: &[u64], tags: &mut [u64], n: u32, a: u32, b: u32) -> u32
+    requires { ⌜ (4 * n ≤ length (now found)) × (4 * n ≤ length (now tags)) ⌝ }
+    ensures sets { λ r. ⌜ now (tags .exit) ≡ carried n (now (found .entry)) (a, b) (now (tags .entry)) ⌝ }
+    ensures gain { λ r. ⌜ totalOf n (now (tags .entry)) + r ≡ totalOf n (now (tags .exit)) ⌝ }
+{
+    if n <= a {
+        return 0;
+    }
+    if n <= b {
+        return 0;
+    }
+    let i = b as usize;
+    let old = tagstore::load_set(tags, i);
+    let new = old.union(tagstore::load_set(found, a as usize));
+    if new.equals(old) {
+        return 0;
+    }
+    tagstore::store_set(tags, i, new);
+    new.size() - old.size()
+}
+
+// Copies the first n sets.
+fn copy_sets(tags: &[u64], found: &mut [u64], n: u32)
+    requires { ⌜ (4 * n ≤ length (now tags)) × (4 * n ≤ length (now found)) ⌝ }
+    ensures { λ r. ⌜ now (found .exit) ≡ take (4 * n) (now (tags .entry)) ++ drop (4 * n) (now (found .entry)) ⌝ }
+{
+    let end = 4 * (n as usize);
+    let mut i: usize = 0;
+    while i < end {
+        found[i] = tags[i];
+        i += 1;
+    }
+}
