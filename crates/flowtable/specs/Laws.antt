@@ -1,7 +1,7 @@
 -- The table of enabled flows: what one step of `find` and of `remove` does, and that appending and removing a record are what the model says
 -- of the enabled flows. Assumes nothing.
 use mathlib.Core.Path.{_≡_, refl, sym, ap, ap₂, _∙_}
-use mathlib.Core.Bool.{true, false, cond, false≢true}
+use mathlib.Core.Bool.{Bool, true, false, cond, false≢true}
 use mathlib.Core.Logic.{_≢_, by-cases}
 use mathlib.Core.List.{List, [], _∷_, _++_, append-assoc}
 use Prim.Native.Nat.{ℕ, zero, suc, _+_, _-_, _≤_, _<_}
@@ -70,6 +70,23 @@ found-at k at fs e h = let l : placeOf k fs < length fs = omega (arith, e, h) in
 pub found-none : (k : ℕ) (fs : List Flow) → length fs ≤ placeOf k fs → Absent ≡ foundIn k fs
 unfolding foundIn
 found-none k fs h = rw (place-enabled k fs, le-ltb (placeOf k fs) (length fs) h) refl
+
+-- and conversely
+pub found-absent : (k : ℕ) (fs : List Flow) → Absent ≡ foundIn k fs → isEnabled k fs ≡ false
+unfolding foundIn
+found-absent k fs = go (isEnabled k fs)
+  where
+    go : (b : Bool) → Absent ≡ cond b (At (placeOf k fs)) Absent → b ≡ false
+    go false e = refl
+    go true e = cc
+
+pub found-place : (k : ℕ) {place : ℕ} (fs : List Flow) → At place ≡ foundIn k fs → (isEnabled k fs ≡ true) × (place ≡ placeOf k fs)
+unfolding foundIn
+found-place k {place} fs = go (isEnabled k fs)
+  where
+    go : (b : Bool) → At place ≡ cond b (At (placeOf k fs)) Absent → (b ≡ true) × (place ≡ placeOf k fs)
+    go true e = (refl, cc)
+    go false e = (cc, cc)
 
 -- so where one has
 place-below : (k : ℕ) (fs : List Flow) → isEnabled k fs ≡ true → placeOf k fs < length fs

@@ -21,7 +21,7 @@ use Rattle.state.specs.Valid.{allOf, risingFrom, inLimits, countsInLimit
 -- Tests, each with what it says
 
 -- every number below n passes
-all-below-iff : (n : ℕ) (f : ℕ → Bool) → (allBelow n f ≡ true) ↔ ((k : ℕ) → k < n → f k ≡ true)
+pub all-below-iff : (n : ℕ) (f : ℕ → Bool) → (allBelow n f ≡ true) ↔ ((k : ℕ) → k < n → f k ≡ true)
 all-below-iff n f = (all-at n f, all-make n f)
 
 -- where all elements pass, each does
@@ -46,7 +46,7 @@ known-iff : (s : TagSet) (n : ℕ) → (exceedsOf s n ≡ false) ↔ ((t : ℕ) 
 known-iff s n = (not-exceeds s n, not-exceeds-of-has s n)
 
 -- every tag of a set is in another
-subset-iff : (a b : TagSet) → (subsetOf a b ≡ true) ↔ ((t : ℕ) → has a t ≡ true → has b t ≡ true)
+pub subset-iff : (a b : TagSet) → (subsetOf a b ≡ true) ↔ ((t : ℕ) → has a t ≡ true → has b t ≡ true)
 subset-iff a b = (subset-has a b, subset-of-has a b)
 
 -- what the tests above say, for `simp`

@@ -2,7 +2,7 @@
 -- The definitions: model/specs/Model.antt (containers, flows, executions; no word of a tracker) and Reach.antt; state/specs/State.antt and Valid.antt;
 -- Outcome.antt; with tagset/specs/Set.antt and refusal/specs/Order.antt (`firstOf`, IsFirst).
 -- Words of the claims: IsSized, ProperEnds, Rising, IsValid, Usable (state/specs/IsValid.antt); Fit64 (state/specs/Layout.antt); StartAnswers, Enables,
--- EnableAnswers, DisableAnswers (Table.antt); Sentence, IsStarted, FlowsChanged (Steps.antt); SameBeyond, totalOf (Effects.antt); Follows (Follows.antt);
+-- EnableAnswers, DisableAnswers (Table.antt); Sentence, IsStarted, FlowsChanged (Steps.antt); SameBeyond (Effects.antt); totalOf (tagstore/specs/Store.antt); Follows (Follows.antt);
 -- Standing, Accepted, Occurs, MayEnable, Within (model/specs/Standing.antt, Histories.antt, Closure.antt). Assumes nothing.
 use mathlib.Core.Path.{_≡_, refl}
 use mathlib.Core.Bool.{true, false}
@@ -26,12 +26,13 @@ use Rattle.state.specs.State.{Storage, State, badSize, setAt, flowsOf}
 use Rattle.state.specs.Valid.{validOf}
 use Rattle.state.specs.Layout.{Fit64, set-bit, flows-first, flows-count}
 use Rattle.state.specs.IsValid.{IsSized, sized, IsValid, valid, Usable}
+use Rattle.tagstore.specs.Store.{totalOf}
 use Rattle.tracker.specs.Outcome.{startOrder, startOf, propagated, gainOf, enableOf, disableOf, Call, ask, orderOf, outcomeOf, eventsOf, after, configurationOf}
 use Rattle.tracker.specs.Refusals.{start-refusal, start-refused, call-refusal, call-refused}
 use Rattle.tracker.specs.Table.{StartAnswers, start-answers, EnableAnswers, enable-answers, DisableAnswers, disable-answers}
 use Rattle.tracker.specs.Stays.{settled}
 use Rattle.tracker.specs.Steps.{start-makes-usable, event-leaves-usable, call-keeps, usable-answers, Sentence, enable-sentence, disable-sentence, IsStarted, start-is-started, FlowsChanged, enable-flows, disable-flows}
-use Rattle.tracker.specs.Effects.{start-fits, call-fits, start-gains-nothing, SameBeyond, start-beyond, call-beyond, list-beyond, disable-tags, gain-counted, totalOf, enable-gain, disable-gain}
+use Rattle.tracker.specs.Effects.{start-fits, call-fits, start-gains-nothing, SameBeyond, start-beyond, call-beyond, list-beyond, disable-tags, gain-counted, enable-gain, disable-gain}
 use Rattle.tracker.specs.Follows.{Follows, configuration-has, accepted-joins, calls-follow, begun-follows}
 
 -- DEMAND 1: the work, or the refusal that comes first in the paper's order; a refused event changes nothing

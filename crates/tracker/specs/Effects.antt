@@ -9,12 +9,13 @@ use lib.ListN.{length, drop, length-append}
 use Rattle.refusal.specs.Order.{firstOf}
 use Rattle.model.specs.declared.Flow.{Flow}
 use Rattle.model.specs.Model.{Event, enable, disable, without}
-use Rattle.tagset.specs.Set.{has, singleOf, sizeOf, subsetOf}
+use Rattle.tagset.specs.Set.{has, singleOf, subsetOf}
 use Rattle.tagset.specs.Laws.{single-words, size-subset, subset-of-has, subset-refl}
 use Rattle.tagset.specs.Below.{count-none}
 use Rattle.state.specs.State.{Storage, State, setAt, flowsOf}
 use Rattle.state.specs.Layout.{Fit64, sets-fit, sets-length, sets-beyond, front-length, front-beyond, flows-length, flows-beyond}
 use Rattle.state.specs.IsValid.{IsSized, Usable}
+use Rattle.tagstore.specs.Store.{totalOf}
 use Rattle.tracker.specs.Outcome.{decided, noHeader, startOrder, started, startOf, propagated, gainOf, changed, enabling, disabling, enableOrder, enableOf, disableOrder, disableOf, Call, ask, outcomeOf, after}
 use Rattle.tracker.specs.Refusals.{start-cases, call-cases}
 use Rattle.tracker.specs.Propagation.{propagated-fits}
@@ -60,7 +61,7 @@ beyond-trans p q =
     }
 
 -- propagation leaves alone the words past the sets
-propagated-beyond : (n : ℕ) (fs : List Flow) (ws : List ℕ) → drop (4 * n) (propagated n fs ws) ≡ drop (4 * n) ws
+pub propagated-beyond : (n : ℕ) (fs : List Flow) (ws : List ℕ) → drop (4 * n) (propagated n fs ws) ≡ drop (4 * n) ws
 unfolding propagated
 propagated-beyond n fs ws = sets-beyond n _ ws
 
@@ -159,13 +160,8 @@ disable-tags s k = decided-keeps (λ s. s .storage .tags) (firstOf (disableOrder
 
 -- THE GAIN
 
--- how many (tag, container) pairs are stored: the sizes of the sets
-unfoldable pub totalOf : ℕ → List ℕ → ℕ
-totalOf zero ws = 0
-totalOf (suc n) ws = sizeOf (setAt ws n) + totalOf n ws
-
 -- where no set loses a tag, the gain is what the total grows by
-gain-total : (n : ℕ) (before after : List ℕ) → ((c : ℕ) → c < n → subsetOf (setAt before c) (setAt after c) ≡ true)
+pub gain-total : (n : ℕ) (before after : List ℕ) → ((c : ℕ) → c < n → subsetOf (setAt before c) (setAt after c) ≡ true)
     → totalOf n before + gainOf n before after ≡ totalOf n after
 unfolding totalOf gainOf
 gain-total zero before after p = refl

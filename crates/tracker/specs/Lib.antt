@@ -8,3 +8,8 @@ pub mod Table
 pub mod Effects
 pub mod Follows
 pub mod Claims
+pub mod Answer
+pub mod Inner
+pub mod Inside
+pub mod Judged
+pub mod Ways

@@ -78,7 +78,7 @@ propagated-length n fs ws h = sets-length n _ ws h
 
 module _ (n : ℕ) (fs : List Flow) (ws : List ℕ) (w : Within n (edgesOf fs)) where
   -- propagation leaves each container the tags that it had
-  propagated-keeps : (c t : ℕ) → c < n → has (setAt ws c) t ≡ true → has (setAt (propagated n fs ws) c) t ≡ true
+  pub propagated-keeps : (c t : ℕ) → c < n → has (setAt ws c) t ≡ true → has (setAt (propagated n fs ws) c) t ≡ true
   propagated-keeps c t l h = propagated-has n fs ws c t l .1 (c, l, reaches-complete n (edgesOf fs) w l ReflTransGenᴰ·refl, h)
 
   -- after it each way has carried its tags

@@ -1,1 +1,170 @@
-// The tracker. The outcome of each call stands in specs/Outcome.antt, and what is claimed of it in specs/Claims.antt.
+// The tracker: start, enable, disable. What each call answers and leaves stands in specs/Outcome.antt, and what is claimed of it in specs/Claims.antt.
+// Lent are four words of tags a container, sixteen words of policy sets and one count of these; the flow table goes by value.
+use flowtable::Found;
+use model::Flow;
+use state::Header;
+use validity::Judgement;
+ghost use mathlib.Core.Path.{_≡_};
+ghost use mathlib.Core.List.{List};
+ghost use Prim.Native.Nat.{ℕ};
+ghost use Rattle.state.specs.State.{storageOf, stateOf};
+ghost use Rattle.tracker.specs.Answer.{givenBack, leftBy};
+ghost use Rattle.tracker.specs.Outcome.{startOf, enableOf, disableOf};
+ghost use Rattle.tracker.specs.Inner.{enableIn, disableIn};
+
+// What a call answers: that it is accepted, with its gain, or the refusal (specs/Answer.antt has the paper's numbers).
+pub enum Reply {
+    Accepted(u32),
+    NoSuchContainer,
+    SelfFlow,
+    StaleNumber,
+    TableFull,
+    NotEnabled,
+    BadSize,
+    InvalidState,
+}
+
+// What a call gives back: its answer, the header and the flow table.
+pub struct Answered {
+    pub reply: Reply,
+    pub header: Header,
+    pub flows: [Flow; 512],
+}
+
+// Starts a tracker of n containers in this storage: each container has its own tag alone and no policy set, and no flow is enabled.
+pub fn start(
+    n: u32,
+    tags: &mut [u64],
+    policies: &mut [u64],
+    counts: &mut [u8],
+    flows: [Flow; 512],
+) -> Answered
+    ensures { λ r. ⌜ leftBy r (now (tags .exit)) (now (policies .exit)) (now (counts .exit)) ≡ startOf n (storageOf (now (tags .entry)) (now (policies .entry)) (now (counts .entry)) flows) ⌝ }
+{
+    if validity::bad_size(n, tags.len(), policies.len(), counts.len(), 512) {
+        return refused(
+            Reply::BadSize,
+            Header {
+                containers: 0,
+                count: 0,
+                greatest: 0,
+            },
+            flows,
+        );
+    }
+    tagstore::store_own_tags(tags, n);
+    tagstore::clear_words(policies, 16 * (n as usize));
+    tagstore::clear_bytes(counts, n as usize);
+    Answered {
+        reply: Reply::Accepted(0),
+        header: Header {
+            containers: n,
+            count: 0,
+            greatest: 0,
+        },
+        flows: [Flow {
+            number: 0,
+            from: 0,
+            to: 0,
+        }; 512],
+    }
+}
+
+// Enables a flow (document 01: an opening). The policy sets are judged with the state, and stay.
+pub fn enable(
+    header: Header,
+    tags: &mut [u64],
+    policies: &[u64],
+    counts: &[u8],
+    flows: [Flow; 512],
+    flow: Flow,
+) -> Answered
+    ensures { λ r. ⌜ leftBy r (now (tags .exit)) (now (policies .entry)) (now (counts .entry)) ≡ enableOf (stateOf header (now (tags .entry)) (now (policies .entry)) (now (counts .entry)) flows) flow ⌝ }
+{
+    match validity::judge(header, tags, policies, counts, flows) {
+        Judgement::BadSize => refused(Reply::BadSize, header, flows),
+        Judgement::InvalidState => refused(Reply::InvalidState, header, flows),
+        Judgement::Usable => apply_enable(header, tags, flows, flow),
+    }
+}
+
+// Disables the flow of this number (document 01: a closing). No set changes.
+pub fn disable(
+    header: Header,
+    tags: &[u64],
+    policies: &[u64],
+    counts: &[u8],
+    flows: [Flow; 512],
+    number: u32,
+) -> Answered
+    ensures { λ r. ⌜ leftBy r (now (tags .entry)) (now (policies .entry)) (now (counts .entry)) ≡ disableOf (stateOf header (now (tags .entry)) (now (policies .entry)) (now (counts .entry)) flows) number ⌝ }
+{
+    match validity::judge(header, tags, policies, counts, flows) {
+        Judgement::BadSize => refused(Reply::BadSize, header, flows),
+        Judgement::InvalidState => refused(Reply::InvalidState, header, flows),
+        Judgement::Usable => apply_disable(header, flows, number),
+    }
+}
+
+// Enables a flow without judging the state: on a usable state (law `enable-inside`) as `enable` does. The policy sets are not looked at.
+pub fn apply_enable(header: Header, tags: &mut [u64], flows: [Flow; 512], flow: Flow) -> Answered
+    ensures { λ r. ⌜ ((policies counts : List ℕ) → leftBy r (now (tags .exit)) policies counts ≡ enableIn (stateOf header (now (tags .entry)) policies counts flows) flow) ⌝ }
+{
+    if header.containers <= flow.from {
+        return refused(Reply::NoSuchContainer, header, flows);
+    }
+    if header.containers <= flow.to {
+        return refused(Reply::NoSuchContainer, header, flows);
+    }
+    if flow.from == flow.to {
+        return refused(Reply::SelfFlow, header, flows);
+    }
+    if flow.number <= header.greatest {
+        return refused(Reply::StaleNumber, header, flows);
+    }
+    if 512 <= header.count {
+        return refused(Reply::TableFull, header, flows);
+    }
+    let count = header.count + 1;
+    let table = flowtable::append(flows, header.count, flow);
+    let made = propagation::propagate(tags, header.containers, table, count);
+    Answered {
+        reply: Reply::Accepted(made.gain),
+        header: Header {
+            containers: header.containers,
+            count: count,
+            greatest: flow.number,
+        },
+        flows: table,
+    }
+}
+
+// Disables the flow of this number without judging the state: on a usable state (law `disable-inside`) as `disable` does.
+pub fn apply_disable(header: Header, flows: [Flow; 512], number: u32) -> Answered
+    ensures { λ r. ⌜ ((tags policies counts : List ℕ) → leftBy r tags policies counts ≡ disableIn (stateOf header tags policies counts flows) number) ⌝ }
+{
+    let found = flowtable::find(flows, header.count, number);
+    let Found::At(place) = found else {
+        return refused(Reply::NotEnabled, header, flows);
+    };
+    Answered {
+        reply: Reply::Accepted(0),
+        header: Header {
+            containers: header.containers,
+            count: header.count - 1,
+            greatest: header.greatest,
+        },
+        flows: flowtable::remove(flows, header.count, place),
+    }
+}
+
+// A refusal: header and flows as they are.
+fn refused(reply: Reply, header: Header, flows: [Flow; 512]) -> Answered
+    ensures { λ r. ⌜ r ≡ givenBack reply header flows ⌝ }
+{
+    Answered {
+        reply: reply,
+        header: header,
+        flows: flows,
+    }
+}

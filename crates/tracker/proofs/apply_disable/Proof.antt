@@ -1,0 +1,59 @@
+-- A flow that is not found is refused; one that is found is removed from its place. Assumes nothing.
+use mathlib.Core.Path.{sym, _∙_}
+use mathlib.Core.List.{List, []}
+use Prim.Native.Nat.{ℕ}
+use borrow.Author.Needs.{needs}
+use Rattle.state.specs.State.{State, stateOf, flowsOf}
+use Rattle.tracker.specs.Ways.{left-refused, not-enabled, some-enabled, disables}
+use Rattle.tracker.proofs.apply_disable.Statement.{statement}
+use Rattle.tracker.proofs.apply_disable.Tie as tie
+
+-- the state that the call is given, for any tag sets and policy sets
+abbrev at : tie.Start → List ℕ → List ℕ → List ℕ → State
+at c tags policies counts = stateOf (c .args .header) tags policies counts (c .args .flows)
+
+find-requires : tie.Need-find-requires
+find-requires c κs = search needs
+
+enum-known-found : tie.Need-enum-known-found
+enum-known-found c = search needs
+
+enum-told : tie.Need-enum-told
+enum-told c = search needs
+
+refused-requires : tie.Need-refused-requires
+refused-requires c κs = search needs
+
+returns : tie.Need-returns
+unfolding flowsOf
+returns c =
+    let x = c .before .before .before .before in
+    λ tags policies counts. left-refused (at x tags policies counts) (c .refused .ensures) (not-enabled (at x tags policies counts) (x .args .number) (sym (c .before .enum-told .given .1) ∙ c .before .before .before .find .ensures))
+
+sub-t8 : tie.Need-sub-t8
+unfolding flowsOf
+sub-t8 c =
+    let x = c .before .before .before .before .before in
+    some-enabled (at x [] [] []) (x .args .number) (sym (c .before .before .found .given .1) ∙ c .before .before .before .before .find .ensures)
+
+remove-requires : tie.Need-remove-requires
+remove-requires c κs = search needs
+
+returns-2 : tie.Need-returns-2
+unfolding flowsOf
+returns-2 c =
+    let x = c .before .before .before .before .before .before in
+    λ tags policies counts. disables (at x tags policies counts) (x .args .number) (sym (c .before .before .before .found .given .1) ∙ c .before .before .before .before .before .find .ensures) (c .remove .ensures)
+
+pub apply-disable-spec : {M : Type 1} → statement M
+apply-disable-spec =
+    tie.close
+    (tie.spec
+    find-requires
+    enum-known-found
+    enum-told
+    refused-requires
+    returns
+    sub-t8
+    remove-requires
+    returns-2)

@@ -1,0 +1,79 @@
+-- Each test decides as the order's does; past them the table, the sets and the gain are those of the callees' contracts. Assumes nothing.
+use mathlib.Core.List.{List}
+use Prim.Native.Nat.{ℕ}
+use borrow.Author.Needs.{needs}
+use Rattle.state.specs.State.{State, stateOf}
+use Rattle.tracker.specs.Ways.{left-refused, no-from, no-to, self-flow, stale, full, enables}
+use Rattle.tracker.proofs.apply_enable.Statement.{statement}
+use Rattle.tracker.proofs.apply_enable.Tie as tie
+
+-- the state that the call is given, for any policy sets
+abbrev at : tie.Start → List ℕ → List ℕ → State
+at c policies counts = stateOf (c .args .header) (c .args .tags .now) policies counts (c .args .flows)
+
+refused-requires : tie.Need-refused-requires
+refused-requires c κs = search needs
+
+returns : tie.Need-returns
+returns c = let x = c .before .before .before .before .before in λ policies counts. left-refused (at x policies counts) (c .refused .ensures) (no-from (at x policies counts) (x .args .flow) (c .before .if1 .taken))
+
+refused-requires-2 : tie.Need-refused-requires-2
+refused-requires-2 c κs = search needs
+
+returns-2 : tie.Need-returns-2
+returns-2 c = let x = c .before .before .before .before .before .before .before .before in λ policies counts. left-refused (at x policies counts) (c .refused2 .ensures) (no-to (at x policies counts) (x .args .flow) (c .before .before .before .before .if1 .left) (c .before .if2 .taken))
+
+refused-requires-3 : tie.Need-refused-requires-3
+refused-requires-3 c κs = search needs
+
+returns-3 : tie.Need-returns-3
+returns-3 c = let x = c .before .before .before .before .before .before .before .before .before .before in λ policies counts. left-refused (at x policies counts) (c .refused3 .ensures) (self-flow (at x policies counts) (x .args .flow) (c .before .before .before .before .before .before .if1 .left) (c .before .before .before .if2 .left) (c .before .if3 .taken))
+
+refused-requires-4 : tie.Need-refused-requires-4
+refused-requires-4 c κs = search needs
+
+returns-4 : tie.Need-returns-4
+returns-4 c = let x = c .before .before .before .before .before .before .before .before .before .before .before .before .before in λ policies counts. left-refused (at x policies counts) (c .refused4 .ensures) (stale (at x policies counts) (x .args .flow) (c .before .before .before .before .before .before .before .before .before .if1 .left) (c .before .before .before .before .before .before .if2 .left) (c .before .before .before .before .if3 .left) (c .before .if4 .taken))
+
+refused-requires-5 : tie.Need-refused-requires-5
+refused-requires-5 c κs = search needs
+
+returns-5 : tie.Need-returns-5
+returns-5 c = let x = c .before .before .before .before .before .before .before .before .before .before .before .before .before .before .before in λ policies counts. left-refused (at x policies counts) (c .refused5 .ensures) (full (at x policies counts) (x .args .flow) (c .before .before .before .before .before .before .before .before .before .before .before .if1 .left) (c .before .before .before .before .before .before .before .before .if2 .left) (c .before .before .before .before .before .before .if3 .left) (c .before .before .before .if4 .left) (c .before .if5 .taken))
+
+add-count : tie.Need-add-count
+add-count c = search needs
+
+append-requires : tie.Need-append-requires
+append-requires c κs = search needs
+
+propagate-requires : tie.Need-propagate-requires
+propagate-requires c κs = search needs
+
+same-length : tie.Need-same-length
+same-length c = search needs
+
+returns-6 : tie.Need-returns-6
+returns-6 c =
+    let x = c .before .before .before .before .before .before .before .before .before .before .before .before .before .before .before .before .before .before .before .before in
+    λ policies counts. enables (at x policies counts) (x .args .flow) (c .before .before .before .before .before .before .before .before .before .before .before .before .before .before .before .before .if1 .left) (c .before .before .before .before .before .before .before .before .before .before .before .before .before .if2 .left) (c .before .before .before .before .before .before .before .before .before .before .before .if3 .left) (c .before .before .before .before .before .before .before .before .if4 .left) (c .before .before .before .before .before .before .if5 .left) (c .before .before .before .before .append .ensures) (c .before .before .propagate .ensures .0) (c .before .before .propagate .ensures .1 .1)
+
+pub apply-enable-spec : {M : Type 1} → statement M
+apply-enable-spec =
+    tie.close
+    (tie.spec
+    refused-requires
+    returns
+    refused-requires-2
+    returns-2
+    refused-requires-3
+    returns-3
+    refused-requires-4
+    returns-4
+    refused-requires-5
+    returns-5
+    add-count
+    append-requires
+    propagate-requires
+    same-length
+    returns-6)

@@ -1,0 +1,66 @@
+-- What is judged decides between 9, 12 and the call inside, which on a usable state has the same outcome. Assumes nothing.
+use mathlib.Core.Path.{sym, ap, _∙_}
+use borrow.Author.Needs.{needs}
+use Rattle.state.specs.State.{State, stateOf}
+use Rattle.validity.specs.Judge.{judgementOf}
+use Rattle.tracker.specs.Inside.{disable-inside}
+use Rattle.tracker.specs.Judged.{judged-usable, disable-judged}
+use Rattle.tracker.specs.Ways.{left-refused}
+use Rattle.tracker.proofs.disable.Statement.{statement}
+use Rattle.tracker.proofs.disable.Tie as tie
+
+-- the state that the call is given
+abbrev at : tie.Start → State
+at c = stateOf (c .args .header) (c .args .tags .now) (c .args .policies .now) (c .args .counts .now) (c .args .flows)
+
+judge-requires : tie.Need-judge-requires
+judge-requires c κs = search needs
+
+enum-told : tie.Need-enum-told
+enum-told c = search needs
+
+refused-requires : tie.Need-refused-requires
+refused-requires c κs = search needs
+
+enum-told-2 : tie.Need-enum-told-2
+enum-told-2 c = search needs
+
+refused-requires-2 : tie.Need-refused-requires-2
+refused-requires-2 c κs = search needs
+
+enum-told-3 : tie.Need-enum-told-3
+enum-told-3 c = search needs
+
+apply-disable-requires : tie.Need-apply-disable-requires
+apply-disable-requires c κs = search needs
+
+returns : tie.Need-returns
+returns c =
+    let x = c .before .before .before .before .before .before .before in
+    left-refused (at x) (c .refused .ensures) (disable-judged (at x) (x .args .number) 8 (sym (c .before .before .before .judge .ensures) ∙ ap judgementOf (c .before .enum-told .given .1)))
+
+returns-2 : tie.Need-returns-2
+returns-2 c =
+    let x = c .before .before .before .before .before .before .before in
+    left-refused (at x) (c .refused2 .ensures) (disable-judged (at x) (x .args .number) 11 (sym (c .before .before .before .judge .ensures) ∙ ap judgementOf (c .before .enum-told2 .given .1)))
+
+returns-3 : tie.Need-returns-3
+returns-3 c =
+    let x = c .before .before .before .before .before .before .before in
+    c .apply-disable .ensures (x .args .tags .now) (x .args .policies .now) (x .args .counts .now)
+    ∙ disable-inside (at x) (judged-usable (at x) (sym (c .before .before .before .judge .ensures) ∙ ap judgementOf (c .before .enum-told3 .given .1))) (x .args .number)
+
+pub disable-spec : {M : Type 1} → statement M
+disable-spec =
+    tie.close
+    (tie.spec
+    judge-requires
+    enum-told
+    refused-requires
+    enum-told-2
+    refused-requires-2
+    enum-told-3
+    apply-disable-requires
+    returns
+    returns-2
+    returns-3)

@@ -1,0 +1,69 @@
+-- A bad size is refused; otherwise each list is written as its callee's contract says. Assumes nothing.
+use mathlib.Core.Path.{_≡_}
+use lib.ListN.{length}
+use borrow.Author.Needs.{needs}
+use Rattle.state.specs.State.{stateOf}
+use Rattle.tracker.specs.Outcome.{noHeader}
+use Rattle.tracker.specs.Judged.{start-judged, start-done}
+use Rattle.tracker.specs.Ways.{left-refused}
+use Rattle.tracker.proofs.start.Statement.{statement}
+use Rattle.tracker.proofs.start.Tie as tie
+
+-- the table has 512 records
+long : (c : tie.Start) → length (c .args .flows) ≡ 512
+long c = search needs
+
+bad-size-requires : tie.Need-bad-size-requires
+bad-size-requires c κs = search needs
+
+refused-requires : tie.Need-refused-requires
+refused-requires c κs = search needs
+
+returns : tie.Need-returns
+returns c =
+    let x = c .before .before .before .before .before .before in
+    let a = x .args in
+    left-refused (stateOf noHeader (a .tags .now) (a .policies .now) (a .counts .now) (a .flows)) (c .refused .ensures) (start-judged (a .n) (a .tags .now) (a .policies .now) (a .counts .now) (a .flows) (long x) (c .before .before .bad-size .ensures) (c .before .if1 .taken))
+
+store-own-tags-requires : tie.Need-store-own-tags-requires
+store-own-tags-requires c κs = search needs
+
+mul-clear-words : tie.Need-mul-clear-words
+mul-clear-words c = search needs
+
+clear-words-requires : tie.Need-clear-words-requires
+clear-words-requires c κs = search needs
+
+clear-bytes-requires : tie.Need-clear-bytes-requires
+clear-bytes-requires c κs = search needs
+
+same-length : tie.Need-same-length
+same-length c = search needs
+
+same-length-2 : tie.Need-same-length-2
+same-length-2 c = search needs
+
+same-length-3 : tie.Need-same-length-3
+same-length-3 c = search needs
+
+returns-2 : tie.Need-returns-2
+returns-2 c =
+    let x = c .before .before .before .before .before .before .before .before .before .before .before .before .before .before .before .before .before in
+    let a = x .args in
+    start-done (a .n) (a .tags .now) (a .policies .now) (a .counts .now) (a .flows) (long x) (c .before .before .before .before .before .before .before .before .before .before .before .before .before .bad-size .ensures) (c .before .before .before .before .before .before .before .before .before .before .before .before .if1 .left) (c .before .before .before .before .before .before .before .before .before .before .store-own-tags .ensures) (c .before .before .before .before .before .before .clear-words .ensures) (c .before .before .clear-bytes .ensures)
+
+pub start-spec : {M : Type 1} → statement M
+start-spec =
+    tie.close
+    (tie.spec
+    bad-size-requires
+    refused-requires
+    returns
+    store-own-tags-requires
+    mul-clear-words
+    clear-words-requires
+    clear-bytes-requires
+    same-length
+    same-length-2
+    same-length-3
+    returns-2)

@@ -1,0 +1,165 @@
+-- On a usable state the calls that judge neither 9 nor 12 have the outcome of the public calls: passes come to the closure, one record is appended or
+-- moved away. Assumes nothing.
+use mathlib.Core.Path.{_≡_, refl, sym, ap, ap₂, _∙_, subst}
+use mathlib.Core.Bool.{Bool, true, false, not}
+use mathlib.Core.List.{List, [], _∷_, _++_}
+use Prim.Native.Nat.{ℕ, zero, suc, _+_, _-_, _*_, _≤_, _<_}
+use native.Mathlib.Omega.{arith}
+use lib.ListN.{length, drop, length-append}
+use Rattle.truth.specs.Truth.{iff}
+use Rattle.refusal.specs.Order.{firstOf}
+use Rattle.model.specs.declared.Flow.{Flow}
+use Rattle.model.specs.Model.{edgesOf, without, isEnabled}
+use Rattle.model.specs.Closure.{Within}
+use Rattle.tagset.specs.Set.{has}
+use Rattle.tagset.specs.Laws.{ext, subset-of-has}
+use Rattle.state.specs.State.{State, badSize, setAt, flowsOf, withFlows}
+use Rattle.state.specs.Valid.{validOf}
+use Rattle.state.specs.Layout.{Fit64, set-fits}
+use Rattle.state.specs.IsValid.{sized, valid, Usable}
+use Rattle.tagstore.specs.Laws.{words-ext}
+use Rattle.flowtable.specs.FlowTable.{placeOf, removedAt}
+use Rattle.flowtable.specs.Laws.{appended, appended-flows, without-count, removed}
+use Rattle.propagation.specs.Exact.{passed-length, passed-beyond, passed-fits, exact, setsIn-all}
+use Rattle.propagation.specs.Pass.{passesOf, passed, passesOver, passedOver, addedOver}
+use Rattle.tracker.specs.Outcome.{decided, propagated, gainOf, changed, enabling, disabling, enableOrder, enableOf, disableOrder, disableOf, outcomeOf}
+use Rattle.tracker.specs.Refusals.{decided-number}
+use Rattle.tracker.specs.Propagation.{propagated-has, propagated-fits}
+use Rattle.tracker.specs.Table.{Enables}
+use Rattle.tracker.specs.Stays.{usable-count, propagated-length, propagated-keeps, flows-within, changed-flows, enable-usable}
+use Rattle.tracker.specs.Steps.{enable-accepted}
+use Rattle.tracker.specs.Effects.{gain-total, propagated-beyond}
+use Rattle.tracker.specs.Inner.{stored, appendedTo, carrying, enableIn, disableIn}
+
+-- PASSES AND THE CLOSURE
+
+-- passes over flows with ends below n leave, word by word, what the declarative definition says
+pub passes-propagate : (n : ℕ) (fs : List Flow) (ws : List ℕ) → n ≤ 256 → 4 * n ≤ length ws → Within n (edgesOf fs) → Fit64 ws
+    → passedOver n fs ws ≡ propagated n fs ws
+unfolding passedOver passesOver
+passes-propagate n fs ws small long w fit =
+    rw (setsIn-all n ws small long)
+    (words-ext n after (propagated n fs ws) (passed-length n es ws p ∙ sym (propagated-length n fs ws long))
+    (λ c l. ext (setAt after c) (setAt (propagated n fs ws) c) (set-fits after c (passed-fits n es ws p fit)) (set-fits (propagated n fs ws) c (propagated-fits n fs ws fit)) (λ t h. same c t l))
+    (passed-beyond n es ws p ∙ sym (propagated-beyond n fs ws)))
+  where
+    es : List (ℕ × ℕ)
+    es = edgesOf fs
+
+    p : ℕ
+    p = passesOf n es ws
+
+    after : List ℕ
+    after = passed p n es ws
+
+    -- both have the tags that reach the container
+    same : (c t : ℕ) → c < n → has (setAt after c) t ≡ has (setAt (propagated n fs ws) c) t
+    same c t l =
+        let a = exact n es ws long w c t l in
+        let b = propagated-has n fs ws c t l in
+        iff (has (setAt after c) t) (has (setAt (propagated n fs ws) c) t) (λ h. b .1 (a .0 h)) (λ h. a .1 (b .0 h))
+
+-- the pairs that passes add are the gain
+pub passes-gain : (n : ℕ) (fs : List Flow) (ws : List ℕ) → n ≤ 256 → 4 * n ≤ length ws → Within n (edgesOf fs) → Fit64 ws
+    → addedOver n fs ws ≡ gainOf n ws (propagated n fs ws)
+unfolding addedOver
+passes-gain n fs ws small long w fit =
+    rw (setsIn-all n ws small long, passes-propagate n fs ws small long w fit)
+    (omega (arith, gain-total n ws (propagated n fs ws) (λ c l. subset-of-has (setAt ws c) (setAt (propagated n fs ws) c) (λ t h. propagated-keeps n fs ws w c t l h))))
+
+-- OUTCOMES
+
+-- two outcomes with one refusal are the same where the work is, if there is no refusal
+decided-same : (r : ℕ) (s : State) {g g' : ℕ} {a a' : State} → (r ≡ 0 → (g ≡ g') × (a ≡ a')) → decided r s g a ≡ decided r s g' a'
+unfolding decided
+decided-same zero s e = let p = e refl in ap₂ (λ g a. decided 0 s g a) (p .0) (p .1)
+decided-same (suc k) s e = refl
+
+-- on a usable state the first two conditions of an order do not hold
+judged : (s : State) → Usable s → (rest : List (Bool × ℕ))
+    → firstOf ((badSize (s .header .containers) (s .storage), 9) ∷ (not (validOf s), 12) ∷ rest) 0 ≡ firstOf rest 0
+judged s u rest = rw (sized (s .header .containers) (s .storage) .1 (u .sized), valid s .1 (u .valid)) refl
+
+module _ (s : State) (u : Usable s) where
+  -- the flows that carry after an enable are those enabled before, and the new one last
+  carrying-is : (f : Flow) → s .header .count < 512 → carrying s f ≡ flowsOf s ++ (f ∷ [])
+  unfolding carrying appendedTo flowsOf
+  carrying-is f room = appended-flows (s .header .count) (s .storage .flows) f (omega (arith, room, u .sized .records))
+
+  -- an enable that is accepted leaves the same
+  enable-work : (f : Flow) → Fit64 (s .storage .tags) → Enables s f
+      → (addedOver (s .header .containers) (carrying s f) (s .storage .tags) ≡ gainOf (s .header .containers) (s .storage .tags) (enabling s f .storage .tags))
+      × (stored s (s .header .count + 1) (appendedTo s f) (f .number) (passedOver (s .header .containers) (carrying s f) (s .storage .tags)) ≡ enabling s f)
+  unfolding enabling changed stored
+  enable-work f fit e =
+      rw (carrying-is f (e .room)) (
+        passes-gain n fs ws (u .valid .most) (u .sized .tag-words) within fit,
+        λ i.
+            record {
+              header = record { containers = n; count = count i; greatest = f .number };
+              storage =
+                  record {
+                    tags = passes-propagate n fs ws (u .valid .most) (u .sized .tag-words) within fit i;
+                    policies = s .storage .policies;
+                    policyCounts = s .storage .policyCounts;
+                    flows = table i;
+                  };
+            },
+      )
+    where
+      n : ℕ
+      n = s .header .containers
+
+      ws : List ℕ
+      ws = s .storage .tags
+
+      fs : List Flow
+      fs = flowsOf s ++ (f ∷ [])
+
+      within : Within n (edgesOf fs)
+      within =
+          unfold enabling changed in
+          subst (λ (gs : List Flow). Within n (edgesOf gs)) (changed-flows s fs (f .number) (propagated n fs ws)) (flows-within (enabling s f) (enable-usable s f e .valid))
+
+      count : s .header .count + 1 ≡ length fs
+      count = omega (arith, length-append (flowsOf s) (f ∷ []), usable-count s u)
+
+      table : appendedTo s f ≡ withFlows fs (s .storage .flows)
+      table = unfold appendedTo flowsOf in sym (appended (s .header .count) (s .storage .flows) f (e .room) (u .sized .records) (u .valid .unused-flows))
+
+  -- ENABLE: the outcome inside is the public one
+  pub enable-inside : (f : Flow) → Fit64 (s .storage .tags) → enableIn s f ≡ enableOf s f
+  unfolding enableIn enableOf enableOrder outcomeOf
+  enable-inside f fit =
+      let same : firstOf (enableOrder s f) 0 ≡ firstOf (drop 2 (enableOrder s f)) 0 = judged s u (drop 2 (enableOrder s f)) in
+      decided-same (firstOf (drop 2 (enableOrder s f)) 0) s
+      (λ z. enable-work f fit (enable-accepted s f .0 (decided-number (firstOf (enableOrder s f) 0) s _ _ ∙ same ∙ z)))
+      ∙ ap (λ (r : ℕ). decided r s (gainOf (s .header .containers) (s .storage .tags) (enabling s f .storage .tags)) (enabling s f)) (sym same)
+
+  -- a disable that is accepted leaves the same
+  disable-work : (k : ℕ) → isEnabled k (flowsOf s) ≡ true
+      → stored s (s .header .count - 1) (removedAt (placeOf k (flowsOf s)) (s .header .count) (s .storage .flows)) (s .header .greatest) (s .storage .tags) ≡ disabling s k
+  unfolding disabling changed stored
+  disable-work k h = λ i.
+      record {
+        header = record { containers = s .header .containers; count = count i; greatest = s .header .greatest };
+        storage = record { tags = s .storage .tags; policies = s .storage .policies; policyCounts = s .storage .policyCounts; flows = table i };
+      }
+    where
+      count : s .header .count - 1 ≡ length (without k (flowsOf s))
+      count = omega (arith, without-count k 0 (flowsOf s) (u .valid .rising) h, usable-count s u)
+
+      table : removedAt (placeOf k (flowsOf s)) (s .header .count) (s .storage .flows) ≡ withFlows (without k (flowsOf s)) (s .storage .flows)
+      table = sym (unfold flowsOf in removed k 0 (s .header .count) (s .storage .flows) (u .valid .table-count) (u .sized .records) (u .valid .unused-flows) (u .valid .rising) h)
+
+  -- DISABLE: the outcome inside is the public one
+  pub disable-inside : (k : ℕ) → disableIn s k ≡ disableOf s k
+  unfolding disableIn disableOf disableOrder
+  disable-inside k =
+      let same : firstOf (disableOrder s k) 0 ≡ firstOf (drop 2 (disableOrder s k)) 0 = judged s u (drop 2 (disableOrder s k)) in
+      decided-same (firstOf (drop 2 (disableOrder s k)) 0) s (λ z. (refl, disable-work k (found (isEnabled k (flowsOf s)) z)))
+      ∙ ap (λ (r : ℕ). decided r s 0 (disabling s k)) (sym same)
+    where
+      found : (b : Bool) → firstOf {A = ℕ} ((not b, 8) ∷ []) 0 ≡ 0 → b ≡ true
+      found true z = refl
+      found false z = absurd (omega (arith, z))

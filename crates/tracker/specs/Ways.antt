@@ -1,0 +1,110 @@
+-- Which way the calls inside go, test by test, and what they leave there: the laws that their code cites. Assumes nothing.
+use mathlib.Core.Path.{_≡_, refl, sym, ap, _∙_}
+use mathlib.Core.Bool.{true, not, false≢true}
+use mathlib.Core.List.{List, [], _∷_}
+use mathlib.Core.Logic.{_≢_}
+use Prim.Native.Nat.{ℕ, zero, suc, _+_, _-_, _≤_, _<_}
+use native.Mathlib.Omega.{arith}
+use lib.ListN.{set, take, drop}
+use borrow.Author.Tests.{le-leb, lt-leb, eq-eqb, ne-eqb}
+use Rattle.refusal.specs.Order.{firstOf}
+use Rattle.model.specs.declared.Flow.{Flow}
+use Rattle.model.specs.Model.{isEnabled}
+use Rattle.state.specs.State.{State, flowsOf}
+use Rattle.flowtable.specs.FlowTable.{foundIn, removedAt}
+use Rattle.flowtable.specs.Laws.{found-absent, found-place}
+use Rattle.flowtable.specs.declared.Found.the-variants.{At, Absent}
+use Rattle.propagation.specs.Pass.{passedOver, addedOver}
+use Rattle.tracker.specs.declared.Answered.{Answered}
+use Rattle.tracker.specs.declared.Reply.{Reply}
+use Rattle.tracker.specs.declared.Reply.the-variants.{Accepted}
+use Rattle.tracker.specs.Answer.{refused, answerOf, givenBack, leftBy}
+use Rattle.tracker.specs.Outcome.{Outcome, decided, enableOrder, disableOrder}
+use Rattle.tracker.specs.Judged.{refuses}
+use Rattle.tracker.specs.Inner.{stored, appendedTo, carrying, enableIn, disableIn}
+
+-- the outcome of a refusal
+abbrev pub refusedIn : State → ℕ → Outcome
+refusedIn s k = record { answer = refused k; state = s }
+
+-- a call that gives back what it was given
+pub left-refused : {r : Answered} {reply : Reply} {o : Outcome} (s : State) → r ≡ givenBack reply (s .header) (s .storage .flows)
+    → o ≡ record { answer = answerOf reply; state = s } → leftBy r (s .storage .tags) (s .storage .policies) (s .storage .policyCounts) ≡ o
+left-refused s e p = ap (λ (r : Answered). leftBy r (s .storage .tags) (s .storage .policies) (s .storage .policyCounts)) e ∙ sym p
+
+-- ENABLING
+
+module _ (s : State) (f : Flow) where
+  -- the first of its tests that holds decides
+  enable-first : (k : ℕ) → firstOf (drop 2 (enableOrder s f)) 0 ≡ suc k → enableIn s f ≡ refusedIn s (suc k)
+  unfolding enableIn
+  enable-first k e = refuses (firstOf (drop 2 (enableOrder s f)) 0) k s _ _ e
+
+  -- 4: no such source
+  pub no-from : s .header .containers ≤ f .from → enableIn s f ≡ refusedIn s 4
+  unfolding enableOrder
+  no-from a = enable-first 3 (simp (le-leb (s .header .containers) (f .from) a) refl)
+
+  module _ (a : f .from < s .header .containers) where
+    -- 4: no such destination
+    pub no-to : s .header .containers ≤ f .to → enableIn s f ≡ refusedIn s 4
+    unfolding enableOrder
+    no-to b = enable-first 3 (simp (lt-leb (s .header .containers) (f .from) a, le-leb (s .header .containers) (f .to) b) refl)
+
+    module _ (b : f .to < s .header .containers) where
+      -- 5: a flow to its own source
+      pub self-flow : f .from ≡ f .to → enableIn s f ≡ refusedIn s 5
+      unfolding enableOrder
+      self-flow c =
+          enable-first 4
+          (simp (lt-leb (s .header .containers) (f .from) a, lt-leb (s .header .containers) (f .to) b, eq-eqb (f .from) (f .to) c) refl)
+
+      module _ (c : f .from ≢ f .to) where
+        -- 6: a number not above the greatest
+        pub stale : f .number ≤ s .header .greatest → enableIn s f ≡ refusedIn s 6
+        unfolding enableOrder
+        stale d =
+            enable-first 5
+            (simp (lt-leb (s .header .containers) (f .from) a, lt-leb (s .header .containers) (f .to) b, ne-eqb (f .from) (f .to) c, le-leb (f .number) (s .header .greatest) d) refl)
+
+        module _ (d : s .header .greatest < f .number) where
+          -- 7: no place left
+          pub full : 512 ≤ s .header .count → enableIn s f ≡ refusedIn s 7
+          unfolding enableOrder
+          full e =
+              enable-first 6
+              (simp (lt-leb (s .header .containers) (f .from) a, lt-leb (s .header .containers) (f .to) b, ne-eqb (f .from) (f .to) c, lt-leb (f .number) (s .header .greatest) d, le-leb 512 (s .header .count) e) refl)
+
+          -- the work
+          pub enables : s .header .count < 512 → {table : List Flow} {tags : List ℕ} {gain : ℕ} → table ≡ set (s .storage .flows) (s .header .count) f
+              → tags ≡ passedOver (s .header .containers) (take (s .header .count + 1) table) (s .storage .tags)
+              → gain ≡ addedOver (s .header .containers) (take (s .header .count + 1) table) (s .storage .tags)
+              → leftBy (givenBack (Accepted gain) (record { containers = s .header .containers; count = s .header .count + 1; greatest = f .number }) table) tags (s .storage .policies) (s .storage .policyCounts)
+              ≡ enableIn s f
+          unfolding enableIn enableOrder decided stored appendedTo carrying
+          enables e p q r =
+              simp (lt-leb (s .header .containers) (f .from) a, lt-leb (s .header .containers) (f .to) b, ne-eqb (f .from) (f .to) c, lt-leb (f .number) (s .header .greatest) d, lt-leb 512 (s .header .count) e) (rw (q, r, p) refl)
+
+-- DISABLING
+
+module _ (s : State) (k : ℕ) where
+  -- 8: no flow of this number
+  pub not-enabled : Absent ≡ foundIn k (flowsOf s) → disableIn s k ≡ refusedIn s 8
+  unfolding disableIn disableOrder
+  not-enabled a = refuses (firstOf {A = ℕ} ((not (isEnabled k (flowsOf s)), 8) ∷ []) 0) 7 s _ _ (rw (found-absent k (flowsOf s) a) refl)
+
+  -- where there is one, some flow is enabled
+  pub some-enabled : {place : ℕ} → At place ≡ foundIn k (flowsOf s) → 1 ≤ s .header .count
+  unfolding flowsOf
+  some-enabled a = some (s .header .count) (s .storage .flows) (found-place k (flowsOf s) a .0)
+    where
+      some : (n : ℕ) (fs : List Flow) → isEnabled k (take n fs) ≡ true → 1 ≤ n
+      some zero fs e = unfold isEnabled in absurd (false≢true e)
+      some (suc n) fs e = omega arith
+
+  -- the work
+  pub disables : {place : ℕ} {table : List Flow} → At place ≡ foundIn k (flowsOf s) → table ≡ removedAt place (s .header .count) (s .storage .flows)
+      → leftBy (givenBack (Accepted 0) (record { containers = s .header .containers; count = s .header .count - 1; greatest = s .header .greatest }) table) (s .storage .tags) (s .storage .policies) (s .storage .policyCounts)
+      ≡ disableIn s k
+  unfolding disableIn disableOrder decided stored
+  disables a p = let e = found-place k (flowsOf s) a in rw (e .0, p, e .1) refl

@@ -1,0 +1,3 @@
+pub mod Judge
+pub mod Scan
+pub mod Scanned

@@ -1,0 +1,179 @@
+// Whether a state can be used: storage long enough (refusal 9), content valid (refusal 12). Every other refusal comes after these two.
+use model::Flow;
+use state::Header;
+use tagset::TagSet;
+ghost use mathlib.Core.Path.{_≡_};
+ghost use mathlib.Core.Bool.{false};
+ghost use Prim.Native.Nat.{_+_, _*_, _≤_, _<_};
+ghost use lib.ListN.{length, take};
+ghost use Rattle.refusal.specs.Order.{firstOf};
+ghost use Rattle.state.specs.State.{stateOf};
+ghost use Rattle.state.specs.Valid.{validOf};
+ghost use Rattle.validity.specs.Judge.{shortOf, judgementOf, stateOrder};
+ghost use Rattle.validity.specs.Scan.{policiesValid, containersValid, flowValid, flowsValid, recordsZero};
+
+// What is said of a state. BadSize is the paper's 9, InvalidState its 12, 'unsound book'.
+pub enum Judgement {
+    Usable,
+    BadSize,
+    InvalidState,
+}
+
+// Judges the state: first its lengths, then its content.
+pub fn judge(
+    header: Header,
+    tags: &[u64],
+    policies: &[u64],
+    counts: &[u8],
+    flows: [Flow; 512],
+) -> Judgement
+    ensures { λ r. ⌜ judgementOf r ≡ firstOf (stateOrder (stateOf header (now (tags .entry)) (now (policies .entry)) (now (counts .entry)) flows)) 0 ⌝ }
+{
+    if bad_size(
+        header.containers,
+        tags.len(),
+        policies.len(),
+        counts.len(),
+        512,
+    ) {
+        return Judgement::BadSize;
+    }
+    if is_valid(header, tags, policies, counts, flows) {
+        return Judgement::Usable;
+    }
+    Judgement::InvalidState
+}
+
+// Whether n is 0 or above 256, or the four lent lists, of these lengths, are too short for n containers.
+pub fn bad_size(n: u32, tags: usize, policies: usize, counts: usize, flows: usize) -> bool
+    ensures { λ r. ⌜ r ≡ shortOf n tags policies counts flows ⌝ }
+{
+    let m = n as usize;
+    (n == 0) | (256 < n) | (tags < 4 * m) | (policies < 16 * m) | (counts < m) | (flows < 512)
+}
+
+// Whether the state is valid. Each place is read once; a flow compares the tag sets of its ends.
+fn is_valid(
+    header: Header,
+    tags: &[u64],
+    policies: &[u64],
+    counts: &[u8],
+    flows: [Flow; 512],
+) -> bool
+    requires { ⌜ shortOf (header .containers) (length (now tags)) (length (now policies)) (length (now counts)) 512 ≡ false ⌝ }
+    ensures { λ r. ⌜ r ≡ validOf (stateOf header (now (tags .entry)) (now (policies .entry)) (now (counts .entry)) flows) ⌝ }
+{
+    if 512 < header.count {
+        return false;
+    }
+    if !containers_valid(header.containers, tags, policies, counts) {
+        return false;
+    }
+    if !flows_valid(header, tags, flows) {
+        return false;
+    }
+    records_zero(flows, header.count)
+}
+
+// Whether each container has its own tag, no tag of n or more, and valid policy sets.
+fn containers_valid(n: u32, tags: &[u64], policies: &[u64], counts: &[u8]) -> bool
+    requires { ⌜ (n ≤ 256) × (4 * n ≤ length (now tags)) × (16 * n ≤ length (now policies)) × (n ≤ length (now counts)) ⌝ }
+    ensures { λ r. ⌜ r ≡ containersValid n (now (tags .entry)) (now (policies .entry)) (now (counts .entry)) ⌝ }
+{
+    let known = TagSet::below(n);
+    let mut c: u32 = 0;
+    while c < n {
+        let i = c as usize;
+        let set = tagstore::load_set(tags, i);
+        if !set.contains(c) {
+            return false;
+        }
+        if !set.is_subset(known) {
+            return false;
+        }
+        if !policies_valid(policies, i, counts[i], known) {
+            return false;
+        }
+        c += 1;
+    }
+    true
+}
+
+// Whether container c has at most four policy sets, all of known tags, and zeros in the places that it does not use.
+fn policies_valid(policies: &[u64], c: usize, count: u8, known: TagSet) -> bool
+    requires { ⌜ 16 * c + 16 ≤ length (now policies) ⌝ }
+    ensures { λ r. ⌜ r ≡ policiesValid known (now (policies .entry)) c count ⌝ }
+{
+    if 4 < count {
+        return false;
+    }
+    let mut k: u8 = 0;
+    while k < 4 {
+        let set = tagstore::load_set(policies, 4 * c + k as usize);
+        let limit = if k < count { known } else { TagSet::empty() };
+        if !set.is_subset(limit) {
+            return false;
+        }
+        k += 1;
+    }
+    true
+}
+
+// Whether the enabled flows' numbers rise from at least 1, and each flow is valid.
+fn flows_valid(header: Header, tags: &[u64], flows: [Flow; 512]) -> bool
+    requires { ⌜ (header .count ≤ 512) × (4 * header .containers ≤ length (now tags)) ⌝ }
+    ensures { λ r. ⌜ r ≡ flowsValid header (now (tags .entry)) 0 (take (header .count) flows) ⌝ }
+{
+    let count = header.count as usize;
+    let mut last: u32 = 0;
+    let mut k: usize = 0;
+    while k < count {
+        let f = flows[k];
+        if f.number <= last {
+            return false;
+        }
+        if !flow_valid(header, tags, f) {
+            return false;
+        }
+        last = f.number;
+        k += 1;
+    }
+    true
+}
+
+// Whether the flow's number is not past the greatest, its ends are containers and differ, and the source's tags are the destination's too.
+fn flow_valid(header: Header, tags: &[u64], f: Flow) -> bool
+    requires { ⌜ 4 * header .containers ≤ length (now tags) ⌝ }
+    ensures { λ r. ⌜ r ≡ flowValid header (now (tags .entry)) f ⌝ }
+{
+    if header.greatest < f.number {
+        return false;
+    }
+    if header.containers <= f.from {
+        return false;
+    }
+    if header.containers <= f.to {
+        return false;
+    }
+    if f.from == f.to {
+        return false;
+    }
+    let source = tagstore::load_set(tags, f.from as usize);
+    source.is_subset(tagstore::load_set(tags, f.to as usize))
+}
+
+// Whether the records from `count` on are zero.
+fn records_zero(flows: [Flow; 512], count: u32) -> bool
+    requires { ⌜ count ≤ 512 ⌝ }
+    ensures { λ r. ⌜ r ≡ recordsZero count flows ⌝ }
+{
+    let mut k = count as usize;
+    while k < 512 {
+        let f = flows[k];
+        if (f.number != 0) | (f.from != 0) | (f.to != 0) {
+            return false;
+        }
+        k += 1;
+    }
+    true
+}
