@@ -1,10 +1,12 @@
--- THE CLAIMS: what is true of the definitions that the running calls are to equal, each with the demand that it answers.
+-- THE CLAIMS: what is true of the definitions that the running calls equal, each with the demand that it answers; then of the calls, one by one.
 -- The definitions: model/specs/Model.antt (containers, flows, executions; no word of a tracker) and Reach.antt; state/specs/State.antt and Valid.antt;
--- Outcome.antt; with tagset/specs/Set.antt and refusal/specs/Order.antt (`firstOf`, IsFirst).
+-- Outcome.antt; with tagset/specs/Set.antt and refusal/specs/Order.antt (`firstOf`, IsFirst). For the running calls: Answer.antt (what the contracts
+-- cite), Inner.antt, propagation/specs/Pass.antt.
 -- Words of the claims: IsSized, ProperEnds, Rising, IsValid, Usable (state/specs/IsValid.antt); Fit64 (state/specs/Layout.antt); StartAnswers, Enables,
--- EnableAnswers, DisableAnswers (Table.antt); Sentence, IsStarted, FlowsChanged (Steps.antt); SameBeyond (Effects.antt); totalOf (tagstore/specs/Store.antt); Follows (Follows.antt);
+-- EnableAnswers, DisableAnswers (Table.antt); Sentence, IsStarted, FlowsChanged (Steps.antt); SameBeyond (Effects.antt); totalOf (tagstore/specs/Store.antt); Follows (Follows.antt); StartDoes,
+-- EnableDoes, DisableDoes, Run (Running.antt);
 -- Standing, Accepted, Occurs, MayEnable, Within (model/specs/Standing.antt, Histories.antt, Closure.antt). Assumes nothing.
-use mathlib.Core.Path.{_≡_, refl}
+use mathlib.Core.Path.{_≡_, refl, sym, subst}
 use mathlib.Core.Bool.{true, false}
 use mathlib.Core.List.{List, [], _∷_, _++_}
 use mathlib.Core.Logic.{_⊎_, _↔_, _≢_}
@@ -27,7 +29,14 @@ use Rattle.state.specs.Valid.{validOf}
 use Rattle.state.specs.Layout.{Fit64, set-bit, flows-first, flows-count}
 use Rattle.state.specs.IsValid.{IsSized, sized, IsValid, valid, Usable}
 use Rattle.tagstore.specs.Store.{totalOf}
-use Rattle.tracker.specs.Outcome.{startOrder, startOf, propagated, gainOf, enableOf, disableOf, Call, ask, orderOf, outcomeOf, eventsOf, after, configurationOf}
+use Rattle.propagation.specs.Pass.{adds, passed, passesOf, passedOver, addedOver}
+use Rattle.propagation.specs.Exact.{passes-add, passes-last}
+use Rattle.tracker.specs.declared.Answered.{Answered}
+use Rattle.tracker.specs.Answer.{answerOf, leftBy}
+use Rattle.tracker.specs.Inner.{enableIn, disableIn}
+use Rattle.tracker.specs.Inside.{passes-propagate, passes-gain, enable-inside, disable-inside}
+use Rattle.tracker.specs.Running.{StartDoes, start-does, EnableDoes, enable-does, DisableDoes, disable-does, Run, run-is}
+use Rattle.tracker.specs.Outcome.{Outcome, startOrder, startOf, propagated, gainOf, enableOf, disableOf, Call, ask, orderOf, outcomeOf, eventsOf, after, configurationOf}
 use Rattle.tracker.specs.Refusals.{start-refusal, start-refused, call-refusal, call-refused}
 use Rattle.tracker.specs.Table.{StartAnswers, start-answers, EnableAnswers, enable-answers, DisableAnswers, disable-answers}
 use Rattle.tracker.specs.Stays.{settled}
@@ -215,6 +224,74 @@ module _ (n : ℕ) (lent : Storage) (begun : startOf n lent .answer .refusal ≡
       ↔ ((y : Execution history) (c t : ℕ) → configuration n y c t ≡ true → configuration n x c t ≡ true))
       × ((x : Execution history) × (configuration n x ≡ configurationOf tracker))
   demand-3 = exact-at n history (accepted-inside (accepted-each n (eventsOf calls))) (configurationOf tracker) (tracker-follows .sets)
+
+-- THE RUNNING CALLS (src/lib.rt). The contract of each is one equation: what the call gives back and leaves in the lent lists (`leftBy`) makes up the
+-- outcome of its definition, for every number and every content and length of storage. So what is claimed above of the definitions is true of the
+-- calls, one by one:
+
+-- `start`: StartDoes gathers what is claimed of it (demand 1)
+pub what-start-does : (n : ℕ) (lent : Storage) (r : Answered) (tags policies counts : List ℕ) → leftBy r tags policies counts ≡ startOf n lent
+    → StartDoes n lent (leftBy r tags policies counts)
+what-start-does n lent r tags policies counts e = subst (StartDoes n lent) (sym e) (start-does n lent)
+
+-- `enable`: EnableDoes (demands 1 and 2)
+pub what-enable-does : (s : State) (f : Flow) (r : Answered) (tags : List ℕ)
+    → leftBy r tags (s .storage .policies) (s .storage .policyCounts) ≡ enableOf s f
+    → EnableDoes s f (leftBy r tags (s .storage .policies) (s .storage .policyCounts))
+what-enable-does s f r tags e = subst (EnableDoes s f) (sym e) (enable-does s f)
+
+-- `disable`, which is lent the tag sets to read alone: DisableDoes (demands 1 and 2)
+pub what-disable-does : (s : State) (k : ℕ) (r : Answered)
+    → leftBy r (s .storage .tags) (s .storage .policies) (s .storage .policyCounts) ≡ disableOf s k
+    → DisableDoes s k (leftBy r (s .storage .tags) (s .storage .policies) (s .storage .policyCounts))
+what-disable-does s k r e = subst (DisableDoes s k) (sym e) (disable-does s k)
+
+-- `apply_enable` and `apply_disable`, which judge no state: on a usable one (for the enable of words of 64 bits, as lent words are) they come to the same
+pub apply-enable-is-enable : (s : State) → Usable s → (f : Flow) → Fit64 (s .storage .tags) → enableIn s f ≡ enableOf s f
+apply-enable-is-enable = enable-inside
+
+pub apply-disable-is-disable : (s : State) → Usable s → (k : ℕ) → disableIn s k ≡ disableOf s k
+apply-disable-is-disable = disable-inside
+
+-- PROPAGATION runs in passes, and these come, word by word, to what the sentence says; the pairs counted as they are added are the gain
+pub passes-come-to-the-sentence : (n : ℕ) (fs : List Flow) (ws : List ℕ) → n ≤ 256 → 4 * n ≤ length ws → Within n (edgesOf fs) → Fit64 ws
+    → passedOver n fs ws ≡ propagated n fs ws
+passes-come-to-the-sentence = passes-propagate
+
+pub pairs-added-are-the-gain : (n : ℕ) (fs : List Flow) (ws : List ℕ) → n ≤ 256 → 4 * n ≤ length ws → Within n (edgesOf fs) → Fit64 ws
+    → addedOver n fs ws ≡ gainOf n ws (propagated n fs ws)
+pairs-added-are-the-gain = passes-gain
+
+-- each pass but the last adds a tag, and the last adds none
+pub every-pass-before-the-last-adds : (n : ℕ) (es : List (ℕ × ℕ)) (ws : List ℕ) (m : ℕ) → m + 1 < passesOf n es ws → adds n es (passed m n es ws) ≡ true
+every-pass-before-the-last-adds = passes-add
+
+pub the-last-pass-adds-nothing : (n : ℕ) (es : List (ℕ × ℕ)) (ws : List ℕ) (m : ℕ) → m + 1 ≡ passesOf n es ws → adds n es (passed m n es ws) ≡ false
+the-last-pass-adds-nothing = passes-last
+
+-- DEMANDS 2 AND 3, calls that ran one after the other, known by their contracts alone: after them the state is `s`
+module _ (n : ℕ) (lent : Storage) (calls : List Call) (s : State) (ran : Run n lent calls s) where
+  -- it is the tracker of the claims on lists of calls
+  same-state : tracker n lent (run-is ran .0) calls ≡ s
+  same-state = sym (run-is ran .1)
+
+  pub ran-sets-are-flows : (c t : ℕ) → c < n → (has (setAt (s .storage .tags) c) t ≡ true) ↔ Flows n (accepted n (eventsOf calls)) t c
+  ran-sets-are-flows = rw (sym same-state) (sets-are-flows n lent (run-is ran .0) calls)
+
+  -- the next call that runs, whatever its event, is accepted exactly if the event joins
+  pub ran-accepted-exactly-if-it-joins : (e : Event) (r : Answered) (tags : List ℕ)
+      → leftBy r tags (s .storage .policies) (s .storage .policyCounts) ≡ outcomeOf s (ask e)
+      → (answerOf (r .reply) .refusal ≡ 0) ↔ (joins n (accepted n (eventsOf calls)) e ≡ true)
+  ran-accepted-exactly-if-it-joins e r tags q =
+      subst (λ (o : Outcome). (o .answer .refusal ≡ 0) ↔ (joins n (accepted n (eventsOf calls)) e ≡ true)) (sym q)
+      (subst (λ (s : State). (outcomeOf s (ask e) .answer .refusal ≡ 0) ↔ (joins n (accepted n (eventsOf calls)) e ≡ true)) same-state
+      (accepted-exactly-if-it-joins n lent (run-is ran .0) calls e))
+
+  pub ran-demand-3 :
+      ((x : Execution (accepted n (eventsOf calls))) → (configuration n x ≡ configurationOf s)
+      ↔ ((y : Execution (accepted n (eventsOf calls))) (c t : ℕ) → configuration n y c t ≡ true → configuration n x c t ≡ true))
+      × ((x : Execution (accepted n (eventsOf calls))) × (configuration n x ≡ configurationOf s))
+  ran-demand-3 = rw (sym same-state) (demand-3 n lent (run-is ran .0) calls)
 
 -- THE MODEL, which mentions no tracker, is the papers' (what demands 2 and 3 rest on)
 

@@ -13,3 +13,4 @@ pub mod Inner
 pub mod Inside
 pub mod Judged
 pub mod Ways
+pub mod Running
