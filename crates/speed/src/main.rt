@@ -1,0 +1,59 @@
+// Enables and disables with 512 flows and 256 containers, many times, for timing. Prints how many flows are enabled at the end and the greatest number.
+use model::Flow;
+use tracker::Answered;
+
+fn main() {
+    let mut tags = [0u64; 1024];
+    let mut policies = [0u64; 4096];
+    let mut counts = [0u8; 256];
+    let none = [Flow {
+        number: 0,
+        from: 0,
+        to: 0,
+    }; 512];
+    let started = tracker::start(256, &mut tags, &mut policies, &mut counts, none);
+    let full = fill(started, &mut tags, &policies, &counts);
+    let ended = turn_over(full, &mut tags, &policies, &counts);
+    line(ended.header.count);
+    line(ended.header.greatest);
+}
+
+// Enables flows 1 to 511, which make two rings of all containers.
+fn fill(mut now: Answered, tags: &mut [u64], policies: &[u64], counts: &[u8]) -> Answered {
+    let mut k: u32 = 1;
+    while k < 512 {
+        let flows = now.flows;
+        let flow = Flow {
+            number: k,
+            from: k * 7 % 256,
+            to: (k * 7 + 7) % 256,
+        };
+        now = tracker::enable(now.header, tags, policies, counts, flows, flow);
+        k += 1;
+    }
+    now
+}
+
+// Enables one flow more and disables it, 10,000 times.
+fn turn_over(mut now: Answered, tags: &mut [u64], policies: &[u64], counts: &[u8]) -> Answered {
+    let mut k: u32 = 512;
+    while k < 10512 {
+        let before = now.flows;
+        let flow = Flow {
+            number: k,
+            from: 3,
+            to: 200,
+        };
+        now = tracker::enable(now.header, tags, policies, counts, before, flow);
+        let after = now.flows;
+        now = tracker::disable(now.header, tags, policies, counts, after, k);
+        k += 1;
+    }
+    now
+}
+
+// Prints a number and ends the line.
+fn line(n: u32) {
+    io::print_decimal(libc::STDOUT_FILENO, n as u64);
+    io::write_all(libc::STDOUT_FILENO, b"\n");
+}
