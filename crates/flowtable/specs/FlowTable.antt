@@ -20,7 +20,10 @@ unfoldable pub foundIn : ℕ → List Flow → Found
 foundIn number fs = cond (isEnabled number fs) (At (placeOf number fs)) Absent
 
 -- of the first `count` records the one in this place is gone, the later ones have moved down by one, the last is zero ('a closing moves the later
--- records down by one', 'unused records [..] are zero'); unchanged where they have no such place
+-- records down by one', 'unused records [..] are zero')
+abbrev pub shifted : ℕ → ℕ → List Flow → List Flow
+shifted place count table = take place table ++ (drop (suc place) (take count table) ++ (noFlow ∷ drop count table))
+
+-- the same, or the table as it was where they have no such place
 unfoldable pub removedAt : ℕ → ℕ → List Flow → List Flow
-removedAt place count table =
-    cond (leb (length (take count table)) place) table (take place table ++ (drop (suc place) (take count table) ++ (noFlow ∷ drop count table)))
+removedAt place count table = cond (leb (length (take count table)) place) table (shifted place count table)

@@ -2,12 +2,11 @@
 -- of the enabled flows. Assumes nothing.
 use mathlib.Core.Path.{_≡_, refl, sym, ap, ap₂, _∙_}
 use mathlib.Core.Bool.{Bool, true, false, cond, false≢true}
-use mathlib.Core.Logic.{_≢_, by-cases}
+use mathlib.Core.Logic.{_≢_}
 use mathlib.Core.List.{List, [], _∷_, _++_, append-assoc}
 use Prim.Native.Nat.{ℕ, zero, suc, _+_, _-_, _≤_, _<_}
 use native.Mathlib.Nat.{add-zero, not-suc-le-zero, le-of-suc-le-suc, suc-inj}
 use native.Mathlib.Numerals.{add-one}
-use native.Mathlib.Decide.{decLt}
 use native.Mathlib.Omega.{arith}
 use lib.Dec.{eqb, ltb, leb·suc-suc}
 use lib.ListN.{length, getD, set, take, drop, replicate, length-append, length-set, length-take, length-drop, drop-of-length-le}
@@ -19,7 +18,7 @@ use Rattle.model.specs.Model.{isEnabled, keep, without}
 use Rattle.state.specs.State.{noFlow, withFlows}
 use Rattle.state.specs.IsValid.{Rising}
 use Rattle.flowtable.specs.declared.Found.the-variants.{At, Absent}
-use Rattle.flowtable.specs.FlowTable.{placeOf, foundIn, removedAt}
+use Rattle.flowtable.specs.FlowTable.{placeOf, foundIn, shifted, removedAt}
 
 -- A place
 
@@ -47,13 +46,7 @@ pub place-end : (number k : ℕ) (fs : List Flow) → length fs ≤ k → placeO
 unfolding placeOf
 place-end number k fs h = ap (placeOf number) (drop-of-length-le fs h)
 
--- a place is at most the number of flows
-pub place-le : (k : ℕ) (fs : List Flow) → placeOf k fs ≤ length fs
-unfolding placeOf
-place-le k [] = omega arith
-place-le k (f ∷ fs) = cases (eqb (f .number) k) (λ t. rw t (omega arith)) (λ n. rw n (omega (arith, place-le k fs)))
-
--- it is below exactly where a flow has the number
+-- a place is below the end exactly where a flow has the number
 pub place-enabled : (k : ℕ) (fs : List Flow) → isEnabled k fs ≡ ltb (placeOf k fs) (length fs)
 unfolding placeOf isEnabled
 place-enabled k [] = refl
@@ -147,10 +140,6 @@ pub without-count : (k j : ℕ) (fs : List Flow) → Rising j fs → isEnabled k
 without-count k j fs r e =
     rw (without-one k j fs r e) (simp (length-append, length-take, length-drop) (omega (arith, place-below k fs e)))
 
--- of the first `count` records the one in this place is gone, as `removedAt` has it where there is such a place
-abbrev shifted : ℕ → ℕ → List Flow → List Flow
-shifted place count table = take place table ++ (drop (suc place) (take count table) ++ (noFlow ∷ drop count table))
-
 -- where there is such a place, that is what removing does
 removed-in : (place count : ℕ) (table : List Flow) → place < length (take count table) → removedAt place count table ≡ shifted place count table
 unfolding removedAt
@@ -191,13 +180,6 @@ removed-next i count table h =
 
 pub removed-last : (i count : ℕ) (table : List Flow) → i + 1 ≡ length (take count table) → removedAt i count table ≡ set table i noFlow
 removed-last i count table h = removed-in i count table (omega arith) ∙ shift-last i count table (omega arith)
-
--- the table stays as long
-pub removed-length : (place count : ℕ) (table : List Flow) → length (removedAt place count table) ≡ length table
-removed-length place count table =
-    by-cases (decLt place (length (take count table)))
-    (λ h. ap length (removed-in place count table h) ∙ simp (length-append, length-take, length-drop) (omega (arith, length-take count table)))
-    (λ h. ap length (removed-out place count table (omega arith)))
 
 -- and the enabled flows but the one of number k are the table without its record
 pub removed : (k j count : ℕ) (table : List Flow) → count ≤ 512 → 512 ≤ length table

@@ -26,12 +26,12 @@ pub fn find(flows: [Flow; 512], count: u32, number: u32) -> Found
     Found::Absent
 }
 
-// The table with the flow in this place; unchanged where there is no such place.
-pub fn append(mut flows: [Flow; 512], place: u32, flow: Flow) -> [Flow; 512]
-    ensures { λ r. ⌜ r ≡ set flows place flow ⌝ }
+// The table with the flow behind the first `count` records; unchanged where there is no place left.
+pub fn append(mut flows: [Flow; 512], count: u32, flow: Flow) -> [Flow; 512]
+    ensures { λ r. ⌜ r ≡ set flows count flow ⌝ }
 {
-    if place < 512 {
-        let i = place as usize;
+    if count < 512 {
+        let i = count as usize;
         flows[i] = flow;
     }
     flows
@@ -42,7 +42,7 @@ pub fn append(mut flows: [Flow; 512], place: u32, flow: Flow) -> [Flow; 512]
 pub fn remove(mut flows: [Flow; 512], count: u32, place: u32) -> [Flow; 512]
     ensures { λ r. ⌜ r ≡ removedAt place count flows ⌝ }
 {
-    let end = if count < 512 { count as usize } else { 512 };
+    let end = if 512 <= count { 512 } else { count as usize };
     let mut i = place as usize;
     if end <= i {
         return flows;

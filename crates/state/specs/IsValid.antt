@@ -15,7 +15,7 @@ use Rattle.tagset.specs.declared.TagSet.{TagSet}
 use Rattle.tagset.specs.Below.{all-at, all-make}
 use Rattle.tagset.specs.Laws.{implies-iff, subset-has, subset-of-has, not-exceeds, not-exceeds-of-has}
 use Rattle.tagset.specs.Set.{has, allBelow, subsetOf, exceedsOf}
-use Rattle.state.specs.State.{Storage, State, badSize, setAt, flowsOf, noFlow}
+use Rattle.state.specs.State.{Storage, State, shortOf, badSize, setAt, flowsOf, noFlow}
 use Rattle.state.specs.Valid.{allOf, risingFrom, inLimits, countsInLimits, numbersRise, endsProper, tagsKnown, ownTags, setsCarried, isNoFlow, unusedZero, validOf}
 
 -- Tests, each with what it says
@@ -62,6 +62,12 @@ pub record IsSized (n : ℕ) (lent : Storage) : Type 0 where
   pub policy-words : 16 * n ≤ length (lent .policies)
   pub count-bytes : n ≤ length (lent .policyCounts)
   pub records : 512 ≤ length (lent .flows)
+
+-- 9 goes by the lengths
+pub bad-size-short : (n : ℕ) (lent : Storage)
+    → badSize n lent ≡ shortOf n (length (lent .tags)) (length (lent .policies)) (length (lent .policyCounts)) (length (lent .flows))
+unfolding badSize
+bad-size-short n lent = refl
 
 -- 9 is not answered exactly there
 pub sized : (n : ℕ) (lent : Storage) → (badSize n lent ≡ false) ↔ IsSized n lent

@@ -29,11 +29,13 @@ storageOf tags policies counts flows = record { tags = tags; policies = policies
 abbrev pub stateOf : Header → List ℕ → List ℕ → List ℕ → List Flow → State
 stateOf header tags policies counts flows = record { header = header; storage = storageOf tags policies counts flows }
 
--- 9: 'n is 0 or above 256, or storage shorter than above'
+-- 9: 'n is 0 or above 256, or storage shorter than above', by the lengths of the four lists
+abbrev pub shortOf : ℕ → ℕ → ℕ → ℕ → ℕ → Bool
+shortOf n tags policies counts flows =
+    eqb n 0 || ltb 256 n || ltb tags (4 * n) || ltb policies (16 * n) || ltb counts n || ltb flows 512
+
 unfoldable pub badSize : ℕ → Storage → Bool
-badSize n lent =
-    eqb n 0 || ltb 256 n || ltb (length (lent .tags)) (4 * n) || ltb (length (lent .policies)) (16 * n) || ltb (length (lent .policyCounts)) n
-    || ltb (length (lent .flows)) 512
+badSize n lent = shortOf n (length (lent .tags)) (length (lent .policies)) (length (lent .policyCounts)) (length (lent .flows))
 
 -- set k of a list of words, four words each
 unfoldable pub setAt : List ℕ → ℕ → TagSet

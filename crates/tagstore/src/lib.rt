@@ -35,7 +35,7 @@ pub fn store_set(words: &mut [u64], k: usize, s: TagSet)
     words[b + 3] = s.words[3];
 }
 
-// Gives each of the first n containers its own tag alone, or each that the words have.
+// Gives each of the first n containers that the words have its own tag alone; past the 256th, no tag.
 pub fn store_own_tags(words: &mut [u64], n: u32)
     ensures { λ r. ⌜ now (words .exit) ≡ withSets (min n (length (now (words .entry)) / 4)) singleOf (now (words .entry)) ⌝ }
 {

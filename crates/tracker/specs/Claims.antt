@@ -1,7 +1,7 @@
 -- THE CLAIMS: what is true of the definitions that the running calls equal, each with the demand that it answers; then of the calls, one by one.
 -- The definitions: model/specs/Model.antt (containers, flows, executions; no word of a tracker) and Reach.antt; state/specs/State.antt and Valid.antt;
 -- Outcome.antt; with tagset/specs/Set.antt and refusal/specs/Order.antt (`firstOf`, IsFirst). For the running calls: Answer.antt (what the contracts
--- cite), Inner.antt, propagation/specs/Pass.antt.
+-- cite), Apply.antt, propagation/specs/Pass.antt.
 -- Words of the claims: IsSized, ProperEnds, Rising, IsValid, Usable (state/specs/IsValid.antt); Fit64 (state/specs/Layout.antt); StartAnswers, Enables,
 -- EnableAnswers, DisableAnswers (Table.antt); Sentence, IsStarted, FlowsChanged (Steps.antt); SameBeyond (Effects.antt); totalOf (tagstore/specs/Store.antt); Follows (Follows.antt); StartDoes,
 -- EnableDoes, DisableDoes, Run (Running.antt);
@@ -33,8 +33,8 @@ use Rattle.propagation.specs.Pass.{adds, passed, passesOf, passedOver, addedOve
 use Rattle.propagation.specs.Exact.{passes-add, passes-last}
 use Rattle.tracker.specs.declared.Answered.{Answered}
 use Rattle.tracker.specs.Answer.{answerOf, leftBy}
-use Rattle.tracker.specs.Inner.{enableIn, disableIn}
-use Rattle.tracker.specs.Inside.{passes-propagate, passes-gain, enable-inside, disable-inside}
+use Rattle.tracker.specs.Apply.{applyEnableOf, applyDisableOf}
+use Rattle.tracker.specs.ApplyLaws.{passes-propagate, passes-gain, apply-enable, apply-disable}
 use Rattle.tracker.specs.Running.{StartDoes, start-does, EnableDoes, enable-does, DisableDoes, disable-does, Run, run-is}
 use Rattle.tracker.specs.Outcome.{Outcome, startOrder, startOf, propagated, gainOf, enableOf, disableOf, Call, ask, orderOf, outcomeOf, eventsOf, after, configurationOf}
 use Rattle.tracker.specs.Refusals.{start-refusal, start-refused, call-refusal, call-refused}
@@ -247,11 +247,11 @@ pub what-disable-does : (s : State) (k : ℕ) (r : Answered)
 what-disable-does s k r e = subst (DisableDoes s k) (sym e) (disable-does s k)
 
 -- `apply_enable` and `apply_disable`, which judge no state: on a usable one (for the enable of words of 64 bits, as lent words are) they come to the same
-pub apply-enable-is-enable : (s : State) → Usable s → (f : Flow) → Fit64 (s .storage .tags) → enableIn s f ≡ enableOf s f
-apply-enable-is-enable = enable-inside
+pub apply-enable-is-enable : (s : State) → Usable s → (f : Flow) → Fit64 (s .storage .tags) → applyEnableOf s f ≡ enableOf s f
+apply-enable-is-enable = apply-enable
 
-pub apply-disable-is-disable : (s : State) → Usable s → (k : ℕ) → disableIn s k ≡ disableOf s k
-apply-disable-is-disable = disable-inside
+pub apply-disable-is-disable : (s : State) → Usable s → (k : ℕ) → applyDisableOf s k ≡ disableOf s k
+apply-disable-is-disable = apply-disable
 
 -- PROPAGATION runs in passes, and these come, word by word, to what the sentence says; the pairs counted as they are added are the gain
 pub passes-come-to-the-sentence : (n : ℕ) (fs : List Flow) (ws : List ℕ) → n ≤ 256 → 4 * n ≤ length ws → Within n (edgesOf fs) → Fit64 ws

@@ -8,13 +8,12 @@ use lib.ListN.{length, drop, replicate, drop-of-length-le}
 use Rattle.refusal.specs.Order.{firstOf}
 use Rattle.model.specs.declared.Flow.{Flow}
 use Rattle.tagset.specs.Set.{singleOf}
-use Rattle.state.specs.State.{Storage, State, badSize, storageOf, withSets, noFlow, withFlows}
+use Rattle.state.specs.State.{Storage, State, shortOf, badSize, storageOf, withSets, noFlow, withFlows}
 use Rattle.state.specs.Valid.{validOf}
-use Rattle.state.specs.IsValid.{IsSized, sized, valid, Usable}
+use Rattle.state.specs.IsValid.{IsSized, sized, bad-size-short, valid, Usable}
 use Rattle.tagstore.specs.Store.{zeroFront}
 use Rattle.tagstore.specs.Starting.{zero-front, own-all}
-use Rattle.validity.specs.Judge.{stateOrder, shortOf}
-use Rattle.validity.specs.Scanned.{short-is-bad-size}
+use Rattle.validity.specs.Judge.{stateOrder}
 use Rattle.tracker.specs.Answer.{refused, givenBack, leftBy}
 use Rattle.tracker.specs.Outcome.{decided, noHeader, started, startOrder, startOf, enableOrder, enableOf, disableOrder, disableOf}
 use Rattle.tracker.specs.declared.Reply.the-variants.{Accepted}
@@ -62,7 +61,7 @@ module _ (n : ℕ) (tags policies counts : List ℕ) (flows : List Flow) (long :
 
   -- the lengths decide
   short : {b : Bool} → b ≡ shortOf n (length tags) (length policies) (length counts) 512 → badSize n lent ≡ b
-  short e = short-is-bad-size n lent ∙ ap (shortOf n (length tags) (length policies) (length counts)) long ∙ sym e
+  short e = bad-size-short n lent ∙ ap (shortOf n (length tags) (length policies) (length counts)) long ∙ sym e
 
   -- a start with a bad size is refused
   pub start-judged : {b : Bool} → b ≡ shortOf n (length tags) (length policies) (length counts) 512 → b ≡ true

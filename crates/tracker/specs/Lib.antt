@@ -9,8 +9,8 @@ pub mod Effects
 pub mod Follows
 pub mod Claims
 pub mod Answer
-pub mod Inner
-pub mod Inside
+pub mod Apply
+pub mod ApplyLaws
 pub mod Judged
-pub mod Ways
+pub mod Branches
 pub mod Running

@@ -86,14 +86,17 @@ unfoldable pub gainOf : ℕ → List ℕ → List ℕ → ℕ
 gainOf zero before after = 0
 gainOf (suc n) before after = countBelow 256 (λ t. has (setAt after n) t && not (has (setAt before n) t)) + gainOf n before after
 
--- the state with these flows enabled, this greatest number and these tag sets; policy sets and their counts stay
-unfoldable pub changed : State → List Flow → ℕ → List ℕ → State
-changed s fs greatest tags =
+-- the state with this count of enabled flows, this table, this greatest number and these tag sets; policy sets and their counts stay
+abbrev pub stored : State → ℕ → List Flow → ℕ → List ℕ → State
+stored s count table greatest tags =
     record {
-      header = record { containers = s .header .containers; count = length fs; greatest = greatest };
-      storage =
-          record { tags = tags; policies = s .storage .policies; policyCounts = s .storage .policyCounts; flows = withFlows fs (s .storage .flows) };
+      header = record { containers = s .header .containers; count = count; greatest = greatest };
+      storage = record { tags = tags; policies = s .storage .policies; policyCounts = s .storage .policyCounts; flows = table };
     }
+
+-- the state with these flows enabled
+unfoldable pub changed : State → List Flow → ℕ → List ℕ → State
+changed s fs greatest tags = stored s (length fs) (withFlows fs (s .storage .flows)) greatest tags
 
 -- the state after an accepted enable
 unfoldable pub enabling : State → Flow → State

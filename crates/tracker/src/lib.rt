@@ -10,7 +10,7 @@ ghost use Prim.Native.Nat.{ℕ};
 ghost use Rattle.state.specs.State.{storageOf, stateOf};
 ghost use Rattle.tracker.specs.Answer.{givenBack, leftBy};
 ghost use Rattle.tracker.specs.Outcome.{startOf, enableOf, disableOf};
-ghost use Rattle.tracker.specs.Inner.{enableIn, disableIn};
+ghost use Rattle.tracker.specs.Apply.{applyEnableOf, applyDisableOf};
 
 // What a call answers: that it is accepted, with its gain, or the refusal (specs/Answer.antt has the paper's numbers).
 pub enum Reply {
@@ -106,9 +106,9 @@ pub fn disable(
     }
 }
 
-// Enables a flow without judging the state: on a usable state (law `enable-inside`) as `enable` does. The policy sets are not looked at.
+// Enables a flow without judging the state: on a usable state (law `apply-enable`) as `enable` does. The policy sets are not looked at.
 pub fn apply_enable(header: Header, tags: &mut [u64], flows: [Flow; 512], flow: Flow) -> Answered
-    ensures { λ r. ⌜ ((policies counts : List ℕ) → leftBy r (now (tags .exit)) policies counts ≡ enableIn (stateOf header (now (tags .entry)) policies counts flows) flow) ⌝ }
+    ensures { λ r. ⌜ ((policies counts : List ℕ) → leftBy r (now (tags .exit)) policies counts ≡ applyEnableOf (stateOf header (now (tags .entry)) policies counts flows) flow) ⌝ }
 {
     if header.containers <= flow.from {
         return refused(Reply::NoSuchContainer, header, flows);
@@ -139,9 +139,9 @@ pub fn apply_enable(header: Header, tags: &mut [u64], flows: [Flow; 512], flow: 
     }
 }
 
-// Disables the flow of this number without judging the state: on a usable state (law `disable-inside`) as `disable` does.
+// Disables the flow of this number without judging the state: on a usable state (law `apply-disable`) as `disable` does.
 pub fn apply_disable(header: Header, flows: [Flow; 512], number: u32) -> Answered
-    ensures { λ r. ⌜ ((tags policies counts : List ℕ) → leftBy r tags policies counts ≡ disableIn (stateOf header tags policies counts flows) number) ⌝ }
+    ensures { λ r. ⌜ ((tags policies counts : List ℕ) → leftBy r tags policies counts ≡ applyDisableOf (stateOf header tags policies counts flows) number) ⌝ }
 {
     let found = flowtable::find(flows, header.count, number);
     let Found::At(place) = found else {

@@ -6,7 +6,7 @@ use mathlib.Core.Logic.{_↔_, ⊎-elim}
 use Prim.Native.Nat.{ℕ, _+_, _*_, _/_, _%_, _≤_, _<_}
 use native.Mathlib.Omega.{arith}
 use lib.Dec.{leb, ltb}
-use lib.ListN.{length, getD}
+use lib.ListN.{getD}
 use borrow.Table.Steps.{cases}
 use borrow.Author.Tests.{ltb-true, ltb-false, not-false}
 use Rattle.truth.specs.Truth.{iff, and-iff, not-iff, le-iff, lt-iff, ne-iff}
@@ -21,16 +21,9 @@ use Rattle.tagset.specs.Word.{each-word}
 use Rattle.state.specs.declared.Header.{Header}
 use Rattle.state.specs.IsValid.{IsSized, IsValid, Rising, ProperEnds, unused-iff, valid, all-below-iff, subset-iff}
 use Rattle.state.specs.Layout.{Fit64, set-fits}
-use Rattle.state.specs.State.{Storage, State, badSize, setAt, flowsOf}
+use Rattle.state.specs.State.{State, setAt, flowsOf}
 use Rattle.state.specs.Valid.{allOf, validOf}
-use Rattle.validity.specs.Judge.{shortOf}
 use Rattle.validity.specs.Scan.{policiesValid, containersValid, flowValid, flowsValid, recordsZero}
-
--- refusal 9 goes by the lengths alone
-pub short-is-bad-size : (n : ℕ) (lent : Storage)
-    → badSize n lent ≡ shortOf n (length (lent .tags)) (length (lent .policies)) (length (lent .policyCounts)) (length (lent .flows))
-unfolding badSize shortOf
-short-is-bad-size n lent = refl
 
 -- Tests, each with what it says
 

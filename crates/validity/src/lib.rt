@@ -7,9 +7,9 @@ ghost use mathlib.Core.Bool.{false};
 ghost use Prim.Native.Nat.{_+_, _*_, _≤_, _<_};
 ghost use lib.ListN.{length, take};
 ghost use Rattle.refusal.specs.Order.{firstOf};
-ghost use Rattle.state.specs.State.{stateOf};
+ghost use Rattle.state.specs.State.{shortOf, stateOf};
 ghost use Rattle.state.specs.Valid.{validOf};
-ghost use Rattle.validity.specs.Judge.{shortOf, judgementOf, stateOrder};
+ghost use Rattle.validity.specs.Judge.{judgementOf, stateOrder};
 ghost use Rattle.validity.specs.Scan.{policiesValid, containersValid, flowValid, flowsValid, recordsZero};
 
 // What is said of a state. BadSize is the paper's 9, InvalidState its 12, 'unsound book'.
@@ -52,7 +52,7 @@ pub fn bad_size(n: u32, tags: usize, policies: usize, counts: usize, flows: usiz
     (n == 0) | (256 < n) | (tags < 4 * m) | (policies < 16 * m) | (counts < m) | (flows < 512)
 }
 
-// Whether the state is valid. Each place is read once; a flow compares the tag sets of its ends.
+// Whether the state is valid. Each word, count and record is read once, and a tag set once more for each flow that begins or ends at it.
 fn is_valid(
     header: Header,
     tags: &[u64],

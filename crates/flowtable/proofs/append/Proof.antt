@@ -16,7 +16,7 @@ returns : tie.Need-returns
 returns c = search needs
 
 returns-2 : tie.Need-returns-2
-returns-2 c = let a = c .before .args in sym (set-out (a .t1) (a .place) (a .flow) (omega arith))
+returns-2 c = let a = c .before .args in sym (set-out (a .t1) (a .count) (a .flow) (omega arith))
 
 pub append-spec : {M : Type 1} → statement M
 append-spec = tie.close (tie.spec mul-flows array-set-from-flows returns returns-2)

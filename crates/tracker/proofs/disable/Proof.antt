@@ -1,11 +1,11 @@
--- What is judged decides between 9, 12 and the call inside, which on a usable state has the same outcome. Assumes nothing.
+-- What is judged decides between 9, 12 and `apply_disable`, which on a usable state has the same outcome. Assumes nothing.
 use mathlib.Core.Path.{sym, ap, _∙_}
 use borrow.Author.Needs.{needs}
 use Rattle.state.specs.State.{State, stateOf}
 use Rattle.validity.specs.Judge.{judgementOf}
-use Rattle.tracker.specs.Inside.{disable-inside}
+use Rattle.tracker.specs.ApplyLaws.{apply-disable}
 use Rattle.tracker.specs.Judged.{judged-usable, disable-judged}
-use Rattle.tracker.specs.Ways.{left-refused}
+use Rattle.tracker.specs.Branches.{left-refused}
 use Rattle.tracker.proofs.disable.Statement.{statement}
 use Rattle.tracker.proofs.disable.Tie as tie
 
@@ -48,7 +48,7 @@ returns-3 : tie.Need-returns-3
 returns-3 c =
     let x = c .before .before .before .before .before .before .before in
     c .apply-disable .ensures (x .args .tags .now) (x .args .policies .now) (x .args .counts .now)
-    ∙ disable-inside (at x) (judged-usable (at x) (sym (c .before .before .before .judge .ensures) ∙ ap judgementOf (c .before .enum-told3 .given .1))) (x .args .number)
+    ∙ apply-disable (at x) (judged-usable (at x) (sym (c .before .before .before .judge .ensures) ∙ ap judgementOf (c .before .enum-told3 .given .1))) (x .args .number)
 
 pub disable-spec : {M : Type 1} → statement M
 disable-spec =

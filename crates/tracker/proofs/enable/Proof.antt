@@ -1,11 +1,11 @@
--- What is judged decides between 9, 12 and the call inside, which on a usable state has the same outcome. Assumes nothing.
+-- What is judged decides between 9, 12 and `apply_enable`, which on a usable state has the same outcome. Assumes nothing.
 use mathlib.Core.Path.{sym, ap, _∙_}
 use borrow.Author.Needs.{needs}
 use Rattle.state.specs.State.{State, stateOf}
 use Rattle.validity.specs.Judge.{judgementOf}
-use Rattle.tracker.specs.Inside.{enable-inside}
+use Rattle.tracker.specs.ApplyLaws.{apply-enable}
 use Rattle.tracker.specs.Judged.{judged-usable, enable-judged}
-use Rattle.tracker.specs.Ways.{left-refused}
+use Rattle.tracker.specs.Branches.{left-refused}
 use Rattle.tracker.proofs.enable.Statement.{statement}
 use Rattle.tracker.proofs.enable.Tie as tie
 
@@ -57,7 +57,7 @@ returns-3 : tie.Need-returns-3
 returns-3 c =
     let x = c .before .before .before .before .before .before .before .before .before .before .before in
     c .before .before .apply-enable .ensures (x .args .policies .now) (x .args .counts .now)
-    ∙ enable-inside (at x) (judged-usable (at x) (sym (c .before .before .before .before .before .before .judge .ensures) ∙ ap judgementOf (c .before .before .before .before .enum-told3 .given .1))) (x .args .flow) (λ k. c .before .before .before .before .before .before .before .before .before .before .slice-known .given k .fits)
+    ∙ apply-enable (at x) (judged-usable (at x) (sym (c .before .before .before .before .before .before .judge .ensures) ∙ ap judgementOf (c .before .before .before .before .enum-told3 .given .1))) (x .args .flow) (λ k. c .before .before .before .before .before .before .before .before .before .before .slice-known .given k .fits)
 
 pub enable-spec : {M : Type 1} → statement M
 enable-spec =

@@ -1,5 +1,5 @@
+-- The six tests of the definition, on the same numbers. Assumes nothing.
 use borrow.Author.Needs.{needs}
-use Rattle.validity.specs.Judge.{shortOf}
 use Rattle.validity.proofs.bad_size.Statement.{statement}
 use Rattle.validity.proofs.bad_size.Tie as tie
 
@@ -10,7 +10,6 @@ mul-result-2 : tie.Need-mul-result-2
 mul-result-2 c = search needs
 
 returns : tie.Need-returns
-unfolding shortOf
 returns c = search needs
 
 pub bad-size-spec : {M : Type 1} → statement M

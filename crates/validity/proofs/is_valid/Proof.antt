@@ -6,10 +6,10 @@ use native.Mathlib.Omega.{arith}
 use lib.ListN.{length}
 use borrow.Author.Needs.{needs}
 use borrow.Author.Tests.{le-leb, lt-leb, not-true, not-false}
-use Rattle.state.specs.IsValid.{IsSized, sized}
+use Rattle.state.specs.IsValid.{IsSized, sized, bad-size-short}
 use Rattle.state.specs.State.{State, stateOf, flowsOf}
 use Rattle.state.specs.Valid.{validOf}
-use Rattle.validity.specs.Scanned.{short-is-bad-size, scanOf, scanned}
+use Rattle.validity.specs.Scanned.{scanOf, scanned}
 use Rattle.validity.proofs.is_valid.Statement.{statement}
 use Rattle.validity.proofs.is_valid.Tie as tie
 
@@ -21,7 +21,7 @@ judged s = stateOf (s .args .header) (s .args .tags .now) (s .args .policies .no
 fits : (s : tie.Start) → IsSized (s .args .header .containers) (judged s .storage)
 fits s =
     let e : length (s .args .flows) ≡ 512 = search needs in
-    sized (s .args .header .containers) (judged s .storage) .0 (simp (short-is-bad-size, e) (s .pre))
+    sized (s .args .header .containers) (judged s .storage) .0 (simp (bad-size-short, e) (s .pre))
 
 -- so the order of reading decides
 read : (c : tie.After-struct-known) → (let s = judged (c .before .before .before .before) in validOf s ≡ scanOf s)

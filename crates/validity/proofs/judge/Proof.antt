@@ -3,7 +3,7 @@ use mathlib.Core.Path.{_≡_, sym, _∙_}
 use lib.ListN.{length}
 use borrow.Author.Needs.{needs}
 use Rattle.state.specs.State.{badSize, stateOf}
-use Rattle.validity.specs.Scanned.{short-is-bad-size}
+use Rattle.state.specs.IsValid.{bad-size-short}
 use Rattle.validity.proofs.judge.Statement.{statement}
 use Rattle.validity.proofs.judge.Tie as tie
 
@@ -16,7 +16,7 @@ measured : (c : tie.After-bad-size)
     c .bad-size .result ≡ badSize (s .header .containers) (stateOf (s .header) (s .tags .now) (s .policies .now) (s .counts .now) (s .flows) .storage))
 measured c =
     let e : length (c .before .before .before .before .args .flows) ≡ 512 = search needs in
-    simp (short-is-bad-size, e) (c .bad-size .ensures)
+    simp (bad-size-short, e) (c .bad-size .ensures)
 
 returns : tie.Need-returns
 returns c = simp (sym (measured (c .before)) ∙ c .if1 .taken)

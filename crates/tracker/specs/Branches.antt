@@ -1,4 +1,4 @@
--- Which way the calls inside go, test by test, and what they leave there: the laws that their code cites. Assumes nothing.
+-- The branches of `apply_enable` and `apply_disable`, test by test, and what is left in each: the laws that their proofs cite. Assumes nothing.
 use mathlib.Core.Path.{_≡_, refl, sym, ap, _∙_}
 use mathlib.Core.Bool.{true, not, false≢true}
 use mathlib.Core.List.{List, [], _∷_}
@@ -21,7 +21,7 @@ use Rattle.tracker.specs.declared.Reply.the-variants.{Accepted}
 use Rattle.tracker.specs.Answer.{refused, answerOf, givenBack, leftBy}
 use Rattle.tracker.specs.Outcome.{Outcome, decided, enableOrder, disableOrder}
 use Rattle.tracker.specs.Judged.{refuses}
-use Rattle.tracker.specs.Inner.{stored, appendedTo, carrying, enableIn, disableIn}
+use Rattle.tracker.specs.Apply.{appendedTo, carrying, applyEnableOf, applyDisableOf}
 
 -- the outcome of a refusal
 abbrev pub refusedIn : State → ℕ → Outcome
@@ -36,24 +36,24 @@ left-refused s e p = ap (λ (r : Answered). leftBy r (s .storage .tags) (s .stor
 
 module _ (s : State) (f : Flow) where
   -- the first of its tests that holds decides
-  enable-first : (k : ℕ) → firstOf (drop 2 (enableOrder s f)) 0 ≡ suc k → enableIn s f ≡ refusedIn s (suc k)
-  unfolding enableIn
+  enable-first : (k : ℕ) → firstOf (drop 2 (enableOrder s f)) 0 ≡ suc k → applyEnableOf s f ≡ refusedIn s (suc k)
+  unfolding applyEnableOf
   enable-first k e = refuses (firstOf (drop 2 (enableOrder s f)) 0) k s _ _ e
 
   -- 4: no such source
-  pub no-from : s .header .containers ≤ f .from → enableIn s f ≡ refusedIn s 4
+  pub no-from : s .header .containers ≤ f .from → applyEnableOf s f ≡ refusedIn s 4
   unfolding enableOrder
   no-from a = enable-first 3 (simp (le-leb (s .header .containers) (f .from) a) refl)
 
   module _ (a : f .from < s .header .containers) where
     -- 4: no such destination
-    pub no-to : s .header .containers ≤ f .to → enableIn s f ≡ refusedIn s 4
+    pub no-to : s .header .containers ≤ f .to → applyEnableOf s f ≡ refusedIn s 4
     unfolding enableOrder
     no-to b = enable-first 3 (simp (lt-leb (s .header .containers) (f .from) a, le-leb (s .header .containers) (f .to) b) refl)
 
     module _ (b : f .to < s .header .containers) where
       -- 5: a flow to its own source
-      pub self-flow : f .from ≡ f .to → enableIn s f ≡ refusedIn s 5
+      pub self-flow : f .from ≡ f .to → applyEnableOf s f ≡ refusedIn s 5
       unfolding enableOrder
       self-flow c =
           enable-first 4
@@ -61,7 +61,7 @@ module _ (s : State) (f : Flow) where
 
       module _ (c : f .from ≢ f .to) where
         -- 6: a number not above the greatest
-        pub stale : f .number ≤ s .header .greatest → enableIn s f ≡ refusedIn s 6
+        pub stale : f .number ≤ s .header .greatest → applyEnableOf s f ≡ refusedIn s 6
         unfolding enableOrder
         stale d =
             enable-first 5
@@ -69,7 +69,7 @@ module _ (s : State) (f : Flow) where
 
         module _ (d : s .header .greatest < f .number) where
           -- 7: no place left
-          pub full : 512 ≤ s .header .count → enableIn s f ≡ refusedIn s 7
+          pub full : 512 ≤ s .header .count → applyEnableOf s f ≡ refusedIn s 7
           unfolding enableOrder
           full e =
               enable-first 6
@@ -80,8 +80,8 @@ module _ (s : State) (f : Flow) where
               → tags ≡ passedOver (s .header .containers) (take (s .header .count + 1) table) (s .storage .tags)
               → gain ≡ addedOver (s .header .containers) (take (s .header .count + 1) table) (s .storage .tags)
               → leftBy (givenBack (Accepted gain) (record { containers = s .header .containers; count = s .header .count + 1; greatest = f .number }) table) tags (s .storage .policies) (s .storage .policyCounts)
-              ≡ enableIn s f
-          unfolding enableIn enableOrder decided stored appendedTo carrying
+              ≡ applyEnableOf s f
+          unfolding applyEnableOf enableOrder decided appendedTo carrying
           enables e p q r =
               simp (lt-leb (s .header .containers) (f .from) a, lt-leb (s .header .containers) (f .to) b, ne-eqb (f .from) (f .to) c, lt-leb (f .number) (s .header .greatest) d, lt-leb 512 (s .header .count) e) (rw (q, r, p) refl)
 
@@ -89,8 +89,8 @@ module _ (s : State) (f : Flow) where
 
 module _ (s : State) (k : ℕ) where
   -- 8: no flow of this number
-  pub not-enabled : Absent ≡ foundIn k (flowsOf s) → disableIn s k ≡ refusedIn s 8
-  unfolding disableIn disableOrder
+  pub not-enabled : Absent ≡ foundIn k (flowsOf s) → applyDisableOf s k ≡ refusedIn s 8
+  unfolding applyDisableOf disableOrder
   not-enabled a = refuses (firstOf {A = ℕ} ((not (isEnabled k (flowsOf s)), 8) ∷ []) 0) 7 s _ _ (rw (found-absent k (flowsOf s) a) refl)
 
   -- where there is one, some flow is enabled
@@ -105,6 +105,6 @@ module _ (s : State) (k : ℕ) where
   -- the work
   pub disables : {place : ℕ} {table : List Flow} → At place ≡ foundIn k (flowsOf s) → table ≡ removedAt place (s .header .count) (s .storage .flows)
       → leftBy (givenBack (Accepted 0) (record { containers = s .header .containers; count = s .header .count - 1; greatest = s .header .greatest }) table) (s .storage .tags) (s .storage .policies) (s .storage .policyCounts)
-      ≡ disableIn s k
-  unfolding disableIn disableOrder decided stored
+      ≡ applyDisableOf s k
+  unfolding applyDisableOf disableOrder decided
   disables a p = let e = found-place k (flowsOf s) a in rw (e .0, p, e .1) refl

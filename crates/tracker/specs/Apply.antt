@@ -1,5 +1,5 @@
--- Events on a state that is not judged: what the calls inside do, for every content of the storage. Law: on a usable state their outcome is that of the
--- public calls (Inside.antt). Assumes nothing.
+-- Events on a state that is not judged: what `apply_enable` and `apply_disable` do, for every content of the storage. On a usable state their outcome
+-- is that of the public calls (laws `apply-enable`, `apply-disable` of ApplyLaws.antt). Assumes nothing.
 use mathlib.Core.List.{List}
 use Prim.Native.Nat.{ℕ, _+_, _-_}
 use lib.ListN.{set, take, drop}
@@ -8,15 +8,7 @@ use Rattle.model.specs.declared.Flow.{Flow}
 use Rattle.state.specs.State.{State, flowsOf}
 use Rattle.flowtable.specs.FlowTable.{placeOf, removedAt}
 use Rattle.propagation.specs.Pass.{passedOver, addedOver}
-use Rattle.tracker.specs.Outcome.{Outcome, decided, enableOrder, disableOrder}
-
--- the state with this count of enabled flows, this table, this greatest number and these tag sets
-unfoldable pub stored : State → ℕ → List Flow → ℕ → List ℕ → State
-stored s count table greatest tags =
-    record {
-      header = record { containers = s .header .containers; count = count; greatest = greatest };
-      storage = record { tags = tags; policies = s .storage .policies; policyCounts = s .storage .policyCounts; flows = table };
-    }
+use Rattle.tracker.specs.Outcome.{Outcome, decided, stored, enableOrder, disableOrder}
 
 -- the flow stands in the first free place of the table, and the flows up to it carry
 unfoldable pub appendedTo : State → Flow → List Flow
@@ -26,14 +18,14 @@ unfoldable pub carrying : State → Flow → List Flow
 carrying s f = take (s .header .count + 1) (appendedTo s f)
 
 -- enabling where neither 9 nor 12 is judged
-unfoldable pub enableIn : State → Flow → Outcome
-enableIn s f =
+unfoldable pub applyEnableOf : State → Flow → Outcome
+applyEnableOf s f =
     let n = s .header .containers in
     decided (firstOf (drop 2 (enableOrder s f)) 0) s (addedOver n (carrying s f) (s .storage .tags))
     (stored s (s .header .count + 1) (appendedTo s f) (f .number) (passedOver n (carrying s f) (s .storage .tags)))
 
 -- disabling where neither 9 nor 12 is judged
-unfoldable pub disableIn : State → ℕ → Outcome
-disableIn s k =
+unfoldable pub applyDisableOf : State → ℕ → Outcome
+applyDisableOf s k =
     decided (firstOf (drop 2 (disableOrder s k)) 0) s 0
     (stored s (s .header .count - 1) (removedAt (placeOf k (flowsOf s)) (s .header .count) (s .storage .flows)) (s .header .greatest) (s .storage .tags))

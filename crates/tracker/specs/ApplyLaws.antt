@@ -22,14 +22,14 @@ use Rattle.flowtable.specs.FlowTable.{placeOf, removedAt}
 use Rattle.flowtable.specs.Laws.{appended, appended-flows, without-count, removed}
 use Rattle.propagation.specs.Exact.{passed-length, passed-beyond, passed-fits, exact, setsIn-all}
 use Rattle.propagation.specs.Pass.{passesOf, passed, passesOver, passedOver, addedOver}
-use Rattle.tracker.specs.Outcome.{decided, propagated, gainOf, changed, enabling, disabling, enableOrder, enableOf, disableOrder, disableOf, outcomeOf}
+use Rattle.tracker.specs.Outcome.{decided, stored, propagated, gainOf, changed, enabling, disabling, enableOrder, enableOf, disableOrder, disableOf, outcomeOf}
 use Rattle.tracker.specs.Refusals.{decided-number}
 use Rattle.tracker.specs.Propagation.{propagated-has, propagated-fits}
 use Rattle.tracker.specs.Table.{Enables}
 use Rattle.tracker.specs.Stays.{usable-count, propagated-length, propagated-keeps, flows-within, changed-flows, enable-usable}
 use Rattle.tracker.specs.Steps.{enable-accepted}
 use Rattle.tracker.specs.Effects.{gain-total, propagated-beyond}
-use Rattle.tracker.specs.Inner.{stored, appendedTo, carrying, enableIn, disableIn}
+use Rattle.tracker.specs.Apply.{appendedTo, carrying, applyEnableOf, applyDisableOf}
 
 -- PASSES AND THE CLOSURE
 
@@ -90,7 +90,7 @@ module _ (s : State) (u : Usable s) where
   enable-work : (f : Flow) → Fit64 (s .storage .tags) → Enables s f
       → (addedOver (s .header .containers) (carrying s f) (s .storage .tags) ≡ gainOf (s .header .containers) (s .storage .tags) (enabling s f .storage .tags))
       × (stored s (s .header .count + 1) (appendedTo s f) (f .number) (passedOver (s .header .containers) (carrying s f) (s .storage .tags)) ≡ enabling s f)
-  unfolding enabling changed stored
+  unfolding enabling changed
   enable-work f fit e =
       rw (carrying-is f (e .room)) (
         passes-gain n fs ws (u .valid .most) (u .sized .tag-words) within fit,
@@ -127,10 +127,10 @@ module _ (s : State) (u : Usable s) where
       table : appendedTo s f ≡ withFlows fs (s .storage .flows)
       table = unfold appendedTo flowsOf in sym (appended (s .header .count) (s .storage .flows) f (e .room) (u .sized .records) (u .valid .unused-flows))
 
-  -- ENABLE: the outcome inside is the public one
-  pub enable-inside : (f : Flow) → Fit64 (s .storage .tags) → enableIn s f ≡ enableOf s f
-  unfolding enableIn enableOf enableOrder outcomeOf
-  enable-inside f fit =
+  -- ENABLE: the outcome is the public one
+  pub apply-enable : (f : Flow) → Fit64 (s .storage .tags) → applyEnableOf s f ≡ enableOf s f
+  unfolding applyEnableOf enableOf enableOrder outcomeOf
+  apply-enable f fit =
       let same : firstOf (enableOrder s f) 0 ≡ firstOf (drop 2 (enableOrder s f)) 0 = judged s u (drop 2 (enableOrder s f)) in
       decided-same (firstOf (drop 2 (enableOrder s f)) 0) s
       (λ z. enable-work f fit (enable-accepted s f .0 (decided-number (firstOf (enableOrder s f) 0) s _ _ ∙ same ∙ z)))
@@ -139,7 +139,7 @@ module _ (s : State) (u : Usable s) where
   -- a disable that is accepted leaves the same
   disable-work : (k : ℕ) → isEnabled k (flowsOf s) ≡ true
       → stored s (s .header .count - 1) (removedAt (placeOf k (flowsOf s)) (s .header .count) (s .storage .flows)) (s .header .greatest) (s .storage .tags) ≡ disabling s k
-  unfolding disabling changed stored
+  unfolding disabling changed
   disable-work k h = λ i.
       record {
         header = record { containers = s .header .containers; count = count i; greatest = s .header .greatest };
@@ -152,10 +152,10 @@ module _ (s : State) (u : Usable s) where
       table : removedAt (placeOf k (flowsOf s)) (s .header .count) (s .storage .flows) ≡ withFlows (without k (flowsOf s)) (s .storage .flows)
       table = sym (unfold flowsOf in removed k 0 (s .header .count) (s .storage .flows) (u .valid .table-count) (u .sized .records) (u .valid .unused-flows) (u .valid .rising) h)
 
-  -- DISABLE: the outcome inside is the public one
-  pub disable-inside : (k : ℕ) → disableIn s k ≡ disableOf s k
-  unfolding disableIn disableOf disableOrder
-  disable-inside k =
+  -- DISABLE: the outcome is the public one
+  pub apply-disable : (k : ℕ) → applyDisableOf s k ≡ disableOf s k
+  unfolding applyDisableOf disableOf disableOrder
+  apply-disable k =
       let same : firstOf (disableOrder s k) 0 ≡ firstOf (drop 2 (disableOrder s k)) 0 = judged s u (drop 2 (disableOrder s k)) in
       decided-same (firstOf (drop 2 (disableOrder s k)) 0) s (λ z. (refl, disable-work k (found (isEnabled k (flowsOf s)) z)))
       ∙ ap (λ (r : ℕ). decided r s 0 (disabling s k)) (sym same)
