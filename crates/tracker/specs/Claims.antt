@@ -6,7 +6,7 @@
 -- EnableAnswers, DisableAnswers (Table.antt); Sentence, IsStarted, FlowsChanged (Steps.antt); SameBeyond (Effects.antt); totalOf (tagstore/specs/Store.antt); Follows (Follows.antt); StartDoes,
 -- EnableDoes, DisableDoes, Run (Running.antt);
 -- Standing, Accepted, Occurs, MayEnable, Within (model/specs/Standing.antt, Histories.antt, Closure.antt). Assumes nothing.
-use mathlib.Core.Path.{_≡_, refl, sym, subst}
+use mathlib.Core.Path.{_≡_, refl, sym, _∙_, subst}
 use mathlib.Core.Bool.{true, false}
 use mathlib.Core.List.{List, [], _∷_, _++_}
 use mathlib.Core.Logic.{_⊎_, _↔_, _≢_}
@@ -35,7 +35,7 @@ use Rattle.tracker.specs.declared.Answered.{Answered}
 use Rattle.tracker.specs.Answer.{answerOf, leftBy}
 use Rattle.tracker.specs.Apply.{applyEnableOf, applyDisableOf}
 use Rattle.tracker.specs.ApplyLaws.{passes-propagate, passes-gain, apply-enable, apply-disable}
-use Rattle.tracker.specs.Running.{StartDoes, start-does, EnableDoes, enable-does, DisableDoes, disable-does, Run, run-is}
+use Rattle.tracker.specs.Running.{StartDoes, start-does, EnableDoes, enable-does, DisableDoes, disable-does, Run, run-is, run-of}
 use Rattle.tracker.specs.Outcome.{Outcome, startOrder, startOf, propagated, gainOf, enableOf, disableOf, Call, ask, orderOf, outcomeOf, eventsOf, after, configurationOf}
 use Rattle.tracker.specs.Refusals.{start-refusal, start-refused, call-refusal, call-refused}
 use Rattle.tracker.specs.Table.{StartAnswers, start-answers, EnableAnswers, enable-answers, DisableAnswers, disable-answers}
@@ -253,6 +253,16 @@ apply-enable-is-enable = apply-enable
 pub apply-disable-is-disable : (s : State) → Usable s → (k : ℕ) → applyDisableOf s k ≡ disableOf s k
 apply-disable-is-disable = apply-disable
 
+pub what-apply-enable-does : (s : State) → Usable s → (f : Flow) → Fit64 (s .storage .tags) → (r : Answered) (tags : List ℕ)
+    → leftBy r tags (s .storage .policies) (s .storage .policyCounts) ≡ applyEnableOf s f
+    → EnableDoes s f (leftBy r tags (s .storage .policies) (s .storage .policyCounts))
+what-apply-enable-does s u f w r tags e = what-enable-does s f r tags (e ∙ apply-enable s u f w)
+
+pub what-apply-disable-does : (s : State) → Usable s → (k : ℕ) (r : Answered)
+    → leftBy r (s .storage .tags) (s .storage .policies) (s .storage .policyCounts) ≡ applyDisableOf s k
+    → DisableDoes s k (leftBy r (s .storage .tags) (s .storage .policies) (s .storage .policyCounts))
+what-apply-disable-does s u k r e = what-disable-does s k r (e ∙ apply-disable s u k)
+
 -- PROPAGATION runs in passes, and these come, word by word, to what the sentence says; the pairs counted as they are added are the gain
 pub passes-come-to-the-sentence : (n : ℕ) (fs : List Flow) (ws : List ℕ) → n ≤ 256 → 4 * n ≤ length ws → Within n (edgesOf fs) → Fit64 ws
     → passedOver n fs ws ≡ propagated n fs ws
@@ -269,11 +279,28 @@ every-pass-before-the-last-adds = passes-add
 pub the-last-pass-adds-nothing : (n : ℕ) (es : List (ℕ × ℕ)) (ws : List ℕ) (m : ℕ) → m + 1 ≡ passesOf n es ws → adds n es (passed m n es ws) ≡ false
 the-last-pass-adds-nothing = passes-last
 
--- DEMANDS 2 AND 3, calls that ran one after the other, known by their contracts alone: after them the state is `s`
+-- CALLS THAT RAN one after the other are known by their contracts alone; every list of calls has such a run, from every start that is accepted
+pub every-list-has-a-run : (n : ℕ) (lent : Storage) → startOf n lent .answer .refusal ≡ 0 → (calls : List Call) → (s : State) × Run n lent calls s
+every-list-has-a-run = run-of
+
+-- DEMANDS 2 AND 3 of such a run: after its calls the state is `s`
 module _ (n : ℕ) (lent : Storage) (calls : List Call) (s : State) (ran : Run n lent calls s) where
   -- it is the tracker of the claims on lists of calls
   same-state : tracker n lent (run-is ran .0) calls ≡ s
   same-state = sym (run-is ran .1)
+
+  pub ran-follows : Follows n (accepted n (eventsOf calls)) s
+  ran-follows = rw (sym same-state) (tracker-follows n lent (run-is ran .0) calls)
+
+  pub ran-writes-nothing-beyond : SameBeyond n (s .storage) lent
+  ran-writes-nothing-beyond = rw (sym same-state) (tracker-writes-nothing-beyond n lent (run-is ran .0) calls)
+
+  -- the next call is refused neither for its storage nor for its state
+  pub ran-answers-no-9-or-12 : (e : Event) (r : Answered) (tags : List ℕ)
+      → leftBy r tags (s .storage .policies) (s .storage .policyCounts) ≡ outcomeOf s (ask e)
+      → (answerOf (r .reply) .refusal ≢ 9) × (answerOf (r .reply) .refusal ≢ 12)
+  ran-answers-no-9-or-12 e r tags q =
+      subst (λ (o : Outcome). (o .answer .refusal ≢ 9) × (o .answer .refusal ≢ 12)) (sym q) (usable-answers s e (ran-follows .usable))
 
   pub ran-sets-are-flows : (c t : ℕ) → c < n → (has (setAt (s .storage .tags) c) t ≡ true) ↔ Flows n (accepted n (eventsOf calls)) t c
   ran-sets-are-flows = rw (sym same-state) (sets-are-flows n lent (run-is ran .0) calls)

@@ -1,19 +1,22 @@
 -- The running calls. A call's contract (src/lib.rt) says that what it gives back and leaves makes up the outcome of its definition; so all that is
 -- claimed of the outcome is true of the call. Gathered here for each call, and for calls that ran one after the other. Assumes nothing.
-use mathlib.Core.Path.{_≡_, refl, sym, ap, _∙_}
-use mathlib.Core.List.{List, [], _∷_, _++_}
-use mathlib.Core.Logic.{_↔_}
-use Prim.Native.Nat.{ℕ, suc}
+use mathlib.Core.Path.{_≡_, refl, sym, ap, _∙_, subst}
+use mathlib.Core.List.{List, [], _∷_, _++_, append-assoc, append-nil}
+use mathlib.Core.Logic.{_↔_, _≢_}
+use Prim.Native.Nat.{ℕ, zero, suc}
 use Rattle.model.specs.declared.Flow.{Flow}
-use Rattle.model.specs.Model.{enable, disable, without}
-use Rattle.state.specs.State.{Storage, State, flowsOf}
+use Rattle.model.specs.Model.{Event, enable, disable, without}
+use Rattle.state.specs.State.{Storage, State, stateOf, flowsOf}
 use Rattle.state.specs.Layout.{Fit64}
 use Rattle.state.specs.IsValid.{Usable}
+use native.Mathlib.Omega.{arith}
 use Rattle.tracker.specs.declared.Answered.{Answered}
-use Rattle.tracker.specs.Answer.{answerOf, leftBy}
+use Rattle.tracker.specs.declared.Reply.{Reply}
+use Rattle.tracker.specs.declared.Reply.the-variants.{Accepted, NoSuchContainer, SelfFlow, StaleNumber, TableFull, NotEnabled, BadSize, InvalidState}
+use Rattle.tracker.specs.Answer.{answerOf, givenBack, leftBy}
 use Rattle.tracker.specs.Outcome.{Outcome, noHeader, startOf, gainOf, enableOf, disableOf, Call, ask, outcomeOf, after}
-use Rattle.tracker.specs.Refusals.{start-refused, call-refused}
-use Rattle.tracker.specs.Table.{StartAnswers, start-answers, EnableAnswers, enable-answers, DisableAnswers, disable-answers}
+use Rattle.tracker.specs.Refusals.{start-refused, call-refused, call-cases}
+use Rattle.tracker.specs.Table.{StartAnswers, start-answers, EnableAnswers, enable-answers, DisableAnswers, disable-answers, bad-size, invalid-state, no-such-from, no-such-to, self-flow, stale-number, table-full, not-enabled, accepted}
 use Rattle.tracker.specs.Steps.{start-makes-usable, event-leaves-usable, Sentence, enable-sentence, disable-sentence, IsStarted, start-is-started, FlowsChanged, enable-flows, disable-flows}
 use Rattle.tracker.specs.Effects.{SameBeyond, start-beyond, call-beyond, start-gains-nothing, gain-counted, start-fits, call-fits}
 
@@ -113,3 +116,83 @@ run-is (begun r tags policies counts e a) = (ap (λ (o : Outcome). o .answer .re
 run-is {n} {lent} (called {cs} {s} x c r tags e) =
     let w = run-is x in
     (w .0, ap (λ (o : Outcome). o .state) e ∙ ap (λ (t : State). outcomeOf t c .state) (w .1) ∙ sym (after-last cs (startOf n lent .state) c))
+
+-- SUCH RUNS THERE ARE: what is known of the calls can be met for every list of them
+
+-- an answer that a reply stands for
+abbrev HasReply : ℕ → ℕ → Type 0
+HasReply k gain = (reply : Reply) × (answerOf reply ≡ record { refusal = k; gain = gain })
+
+-- a refusal gains nothing
+refusing : {k gain : ℕ} (reply : Reply) → answerOf reply ≡ record { refusal = k; gain = 0 } → gain ≡ 0 → HasReply k gain
+refusing reply e g = (reply, rw g e)
+
+-- a call that is refused gains nothing
+gains : (s : State) (c : Call) → outcomeOf s c .answer .refusal ≢ 0 → outcomeOf s c .answer .gain ≡ 0
+gains s c = go (outcomeOf s c .answer .refusal) refl
+  where
+    go : (k : ℕ) → outcomeOf s c .answer .refusal ≡ k → k ≢ 0 → outcomeOf s c .answer .gain ≡ 0
+    go zero e n = absurd (n refl)
+    go (suc k) e n = call-refused s c k e .1
+
+-- each number of the tables has its reply
+enable-reply : (s : State) (f : Flow) {k gain : ℕ} → EnableAnswers s f k → (k ≢ 0 → gain ≡ 0) → HasReply k gain
+enable-reply s f (bad-size z) g = refusing BadSize refl (g (λ e. omega (arith, e)))
+enable-reply s f (invalid-state z v) g = refusing InvalidState refl (g (λ e. omega (arith, e)))
+enable-reply s f (no-such-from u a) g = refusing NoSuchContainer refl (g (λ e. omega (arith, e)))
+enable-reply s f (no-such-to u a b) g = refusing NoSuchContainer refl (g (λ e. omega (arith, e)))
+enable-reply s f (self-flow u a b c) g = refusing SelfFlow refl (g (λ e. omega (arith, e)))
+enable-reply s f (stale-number u p a) g = refusing StaleNumber refl (g (λ e. omega (arith, e)))
+enable-reply s f (table-full u p a b) g = refusing TableFull refl (g (λ e. omega (arith, e)))
+enable-reply s f {gain = gain} (accepted e) g = (Accepted gain, refl)
+
+disable-reply : (s : State) (n : ℕ) {k gain : ℕ} → DisableAnswers s n k → (k ≢ 0 → gain ≡ 0) → HasReply k gain
+disable-reply s n (bad-size z) g = refusing BadSize refl (g (λ e. omega (arith, e)))
+disable-reply s n (invalid-state z v) g = refusing InvalidState refl (g (λ e. omega (arith, e)))
+disable-reply s n (not-enabled u a) g = refusing NotEnabled refl (g (λ e. omega (arith, e)))
+disable-reply s n {gain = gain} (accepted u f i e) g = (Accepted gain, refl)
+
+-- what a call asks for can be given back
+call-reply : (s : State) (c : Call) → HasReply (outcomeOf s c .answer .refusal) (outcomeOf s c .answer .gain)
+unfolding outcomeOf
+call-reply s (ask (enable f)) = enable-reply s f (enable-answers s f (enableOf s f .answer .refusal) .0 refl) (gains s (ask (enable f)))
+call-reply s (ask (disable k)) = disable-reply s k (disable-answers s k (disableOf s k .answer .refusal) .0 refl) (gains s (ask (disable k)))
+
+-- policy sets and their counts stay
+call-policies : (s : State) (c : Call)
+    → (outcomeOf s c .state .storage .policies ≡ s .storage .policies) × (outcomeOf s c .state .storage .policyCounts ≡ s .storage .policyCounts)
+call-policies s (ask e) =
+    call-cases (λ x. (x .storage .policies ≡ s .storage .policies) × (x .storage .policyCounts ≡ s .storage .policyCounts)) s (ask e) (done e) (refl, refl)
+  where
+    done : (e : Event) → outcomeOf s (ask e) .answer .refusal ≡ 0
+        → (outcomeOf s (ask e) .state .storage .policies ≡ s .storage .policies) × (outcomeOf s (ask e) .state .storage .policyCounts ≡ s .storage .policyCounts)
+    done (enable f) a = let w = enable-flows s f a in (w .policies, w .counts)
+    done (disable k) a = let w = disable-flows s k a in (w .policies, w .counts)
+
+-- the outcome of a call is left by some answer and words
+call-left : (s : State) (c : Call) → (r : Answered) × (tags : List ℕ) × (leftBy r tags (s .storage .policies) (s .storage .policyCounts) ≡ outcomeOf s c)
+call-left s c =
+    let o = outcomeOf s c in
+    let w = call-reply s c in
+    let p = call-policies s c in (
+      givenBack (w .0) (o .state .header) (o .state .storage .flows),
+      o .state .storage .tags,
+      λ i. record { answer = w .1 i; state = stateOf (o .state .header) (o .state .storage .tags) (sym (p .0) i) (sym (p .1) i) (o .state .storage .flows) },
+    )
+
+-- so every list of calls has a run, from every start that is accepted
+pub run-of : (n : ℕ) (lent : Storage) → startOf n lent .answer .refusal ≡ 0 → (cs : List Call) → (s : State) × Run n lent cs s
+run-of n lent a cs =
+    from cs [] _
+    (begun (givenBack (Accepted (o .answer .gain)) (o .state .header) (o .state .storage .flows)) (o .state .storage .tags) (o .state .storage .policies)
+    (o .state .storage .policyCounts) (λ i. record { answer = record { refusal = sym a i; gain = o .answer .gain }; state = o .state }) refl)
+  where
+    o : Outcome
+    o = startOf n lent
+
+    from : (cs done : List Call) (s : State) → Run n lent done s → (s : State) × Run n lent (done ++ cs) s
+    from [] done s x = (s, subst (λ (ds : List Call). Run n lent ds s) (sym (append-nil done)) x)
+    from (c ∷ cs) done s x =
+        let w = call-left s c in
+        let y = from cs (done ++ (c ∷ [])) _ (called x c (w .0) (w .1) (w .2)) in
+        (y .0, subst (λ (ds : List Call). Run n lent ds (y .0)) (append-assoc done (c ∷ []) cs) (y .1))
