@@ -1,6 +1,7 @@
 -- Each test decides as the order's does; past them the table, the sets and the gain are those of the callees' contracts. Assumes nothing.
 use mathlib.Core.List.{List}
 use Prim.Native.Nat.{ℕ}
+use native.Mathlib.Omega.{arith}
 use borrow.Author.Needs.{needs}
 use Rattle.state.specs.State.{State, stateOf}
 use Rattle.tracker.specs.Branches.{left-refused, no-from, no-to, self-flow, stale, full, enables}
@@ -15,13 +16,13 @@ refused-requires : tie.Need-refused-requires
 refused-requires c κs = search needs
 
 returns : tie.Need-returns
-returns c = let x = c .before .before .before .before .before in λ policies counts. left-refused (at x policies counts) (c .refused .ensures) (no-from (at x policies counts) (x .args .flow) (c .before .if1 .taken))
+returns c = let x = c .before .before .before .before .before in λ policies counts. left-refused (at x policies counts) (c .refused .ensures) (no-from (at x policies counts) (x .args .flow) (omega arith))
 
 refused-requires-2 : tie.Need-refused-requires-2
 refused-requires-2 c κs = search needs
 
 returns-2 : tie.Need-returns-2
-returns-2 c = let x = c .before .before .before .before .before .before .before .before in λ policies counts. left-refused (at x policies counts) (c .refused2 .ensures) (no-to (at x policies counts) (x .args .flow) (c .before .before .before .before .if1 .left) (c .before .if2 .taken))
+returns-2 c = let x = c .before .before .before .before .before .before .before .before in λ policies counts. left-refused (at x policies counts) (c .refused2 .ensures) (no-to (at x policies counts) (x .args .flow) (c .before .before .before .before .if1 .left) (omega arith))
 
 refused-requires-3 : tie.Need-refused-requires-3
 refused-requires-3 c κs = search needs
@@ -33,13 +34,13 @@ refused-requires-4 : tie.Need-refused-requires-4
 refused-requires-4 c κs = search needs
 
 returns-4 : tie.Need-returns-4
-returns-4 c = let x = c .before .before .before .before .before .before .before .before .before .before .before .before .before in λ policies counts. left-refused (at x policies counts) (c .refused4 .ensures) (stale (at x policies counts) (x .args .flow) (c .before .before .before .before .before .before .before .before .before .if1 .left) (c .before .before .before .before .before .before .if2 .left) (c .before .before .before .before .if3 .left) (c .before .if4 .taken))
+returns-4 c = let x = c .before .before .before .before .before .before .before .before .before .before .before .before .before in λ policies counts. left-refused (at x policies counts) (c .refused4 .ensures) (stale (at x policies counts) (x .args .flow) (c .before .before .before .before .before .before .before .before .before .if1 .left) (c .before .before .before .before .before .before .if2 .left) (c .before .before .before .before .if3 .left) (omega arith))
 
 refused-requires-5 : tie.Need-refused-requires-5
 refused-requires-5 c κs = search needs
 
 returns-5 : tie.Need-returns-5
-returns-5 c = let x = c .before .before .before .before .before .before .before .before .before .before .before .before .before .before .before in λ policies counts. left-refused (at x policies counts) (c .refused5 .ensures) (full (at x policies counts) (x .args .flow) (c .before .before .before .before .before .before .before .before .before .before .before .if1 .left) (c .before .before .before .before .before .before .before .before .if2 .left) (c .before .before .before .before .before .before .if3 .left) (c .before .before .before .if4 .left) (c .before .if5 .taken))
+returns-5 c = let x = c .before .before .before .before .before .before .before .before .before .before .before .before .before .before .before in λ policies counts. left-refused (at x policies counts) (c .refused5 .ensures) (full (at x policies counts) (x .args .flow) (c .before .before .before .before .before .before .before .before .before .before .before .if1 .left) (c .before .before .before .before .before .before .before .before .if2 .left) (c .before .before .before .before .before .before .if3 .left) (c .before .before .before .if4 .left) (omega arith))
 
 add-count : tie.Need-add-count
 add-count c = search needs

@@ -13,15 +13,15 @@ use Rattle.validity.proofs.flow_valid.Tie as tie
 
 returns : tie.Need-returns
 unfolding flowValid
-returns c = simp (lt-leb _ _ (c .if1 .taken))
+returns c = let a = c .before .before .before .before .args in simp (lt-leb (a .f .number) (a .header .greatest) (omega arith))
 
 returns-2 : tie.Need-returns-2
 unfolding flowValid
-returns-2 c = simp (le-ltb _ _ (c .if2 .taken), and-false)
+returns-2 c = let a = c .before .before .before .before .before .before .before .args in simp (le-ltb (a .f .from) (a .header .containers) (omega arith), and-false)
 
 returns-3 : tie.Need-returns-3
 unfolding flowValid
-returns-3 c = simp (le-ltb _ _ (c .if3 .taken), and-false)
+returns-3 c = let a = c .before .before .before .before .before .before .before .before .before .before .args in simp (le-ltb (a .f .to) (a .header .containers) (omega arith), and-false)
 
 returns-4 : tie.Need-returns-4
 unfolding flowValid

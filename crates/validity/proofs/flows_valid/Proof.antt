@@ -54,7 +54,10 @@ array-copy-out-f : tie.Need-array-copy-out-f Inv-loop μ-loop
 array-copy-out-f c = search needs
 
 returns : tie.Need-returns Inv-loop μ-loop
-returns c = sym (turned (c .before .before .before) ∙ simp (le-ltb _ _ (c .if1 .taken)))
+returns c =
+    let l = c .before .before .before .before in
+    let a = l .before .before .before .args in
+    sym (turned (c .before .before .before) ∙ simp (le-ltb (l .loop .last) (getD (a .t3) (l .loop .k) noFlow .number) (omega arith)))
 
 flow-valid-requires : tie.Need-flow-valid-requires Inv-loop μ-loop
 flow-valid-requires c κs = search needs

@@ -30,7 +30,7 @@ read c =
     scanned (judged s) (fits s) (λ i. c .before .before .shared-slice-known2 .given i .fits)
 
 returns : tie.Need-returns
-returns c = simp (read (c .before), lt-leb _ _ (c .if1 .taken))
+returns c = simp (read (c .before), lt-leb (c .before .before .before .before .before .args .header .count) 512 (omega arith))
 
 containers-valid-requires : tie.Need-containers-valid-requires
 containers-valid-requires c κs = let z = fits (c .before .before .before .before .before) in omega arith

@@ -45,7 +45,7 @@ tested c = c .is-subset .ensures ∙ ap₂ subsetOf (c .before .before .load-set
 
 returns : tie.Need-returns Inv-loop μ-loop
 unfolding policiesValid
-returns c = simp (lt-leb _ _ (c .if1 .taken))
+returns c = simp (lt-leb (c .before .before .args .count) 4 (omega arith))
 
 loop-holds : tie.Need-loop-holds Inv-loop μ-loop
 loop-holds c = (search needs, below-none _)
