@@ -16,31 +16,56 @@ refused-requires : tie.Need-refused-requires
 refused-requires c κs = search needs
 
 returns : tie.Need-returns
-returns c = let x = c .before .before .before .before .before in λ policies counts. left-refused (at x policies counts) (c .refused .ensures) (no-from (at x policies counts) (x .args .flow) (omega arith))
+returns c =
+    let x = c .before .before .before .before .before in
+    λ policies counts.
+    left-refused (at x policies counts) (c .refused .ensures) (no-from (at x policies counts) (x .args .flow) (omega arith))
 
 refused-requires-2 : tie.Need-refused-requires-2
 refused-requires-2 c κs = search needs
 
 returns-2 : tie.Need-returns-2
-returns-2 c = let x = c .before .before .before .before .before .before .before .before in λ policies counts. left-refused (at x policies counts) (c .refused2 .ensures) (no-to (at x policies counts) (x .args .flow) (c .before .before .before .before .if1 .left) (omega arith))
+returns-2 c =
+    let e1 = c .before .before .before .before in
+    let x = e1 .before .before .before .before in
+    λ policies counts.
+    left-refused (at x policies counts) (c .refused2 .ensures) (no-to (at x policies counts) (x .args .flow) (e1 .if1 .left) (omega arith))
 
 refused-requires-3 : tie.Need-refused-requires-3
 refused-requires-3 c κs = search needs
 
 returns-3 : tie.Need-returns-3
-returns-3 c = let x = c .before .before .before .before .before .before .before .before .before .before in λ policies counts. left-refused (at x policies counts) (c .refused3 .ensures) (self-flow (at x policies counts) (x .args .flow) (c .before .before .before .before .before .before .if1 .left) (c .before .before .before .if2 .left) (c .before .if3 .taken))
+returns-3 c =
+    let e2 = c .before .before .before in
+    let e1 = e2 .before .before .before in
+    let x = e1 .before .before .before .before in
+    λ policies counts.
+    left-refused (at x policies counts) (c .refused3 .ensures) (self-flow (at x policies counts) (x .args .flow) (e1 .if1 .left) (e2 .if2 .left) (c .before .if3 .taken))
 
 refused-requires-4 : tie.Need-refused-requires-4
 refused-requires-4 c κs = search needs
 
 returns-4 : tie.Need-returns-4
-returns-4 c = let x = c .before .before .before .before .before .before .before .before .before .before .before .before .before in λ policies counts. left-refused (at x policies counts) (c .refused4 .ensures) (stale (at x policies counts) (x .args .flow) (c .before .before .before .before .before .before .before .before .before .if1 .left) (c .before .before .before .before .before .before .if2 .left) (c .before .before .before .before .if3 .left) (omega arith))
+returns-4 c =
+    let e3 = c .before .before .before .before in
+    let e2 = e3 .before .before in
+    let e1 = e2 .before .before .before in
+    let x = e1 .before .before .before .before in
+    λ policies counts.
+    left-refused (at x policies counts) (c .refused4 .ensures) (stale (at x policies counts) (x .args .flow) (e1 .if1 .left) (e2 .if2 .left) (e3 .if3 .left) (omega arith))
 
 refused-requires-5 : tie.Need-refused-requires-5
 refused-requires-5 c κs = search needs
 
 returns-5 : tie.Need-returns-5
-returns-5 c = let x = c .before .before .before .before .before .before .before .before .before .before .before .before .before .before .before in λ policies counts. left-refused (at x policies counts) (c .refused5 .ensures) (full (at x policies counts) (x .args .flow) (c .before .before .before .before .before .before .before .before .before .before .before .if1 .left) (c .before .before .before .before .before .before .before .before .if2 .left) (c .before .before .before .before .before .before .if3 .left) (c .before .before .before .if4 .left) (omega arith))
+returns-5 c =
+    let e4 = c .before .before .before in
+    let e3 = e4 .before .before .before in
+    let e2 = e3 .before .before in
+    let e1 = e2 .before .before .before in
+    let x = e1 .before .before .before .before in
+    λ policies counts.
+    left-refused (at x policies counts) (c .refused5 .ensures) (full (at x policies counts) (x .args .flow) (e1 .if1 .left) (e2 .if2 .left) (e3 .if3 .left) (e4 .if4 .left) (omega arith))
 
 add-count : tie.Need-add-count
 add-count c = search needs
@@ -56,8 +81,16 @@ same-length c = search needs
 
 returns-6 : tie.Need-returns-6
 returns-6 c =
-    let x = c .before .before .before .before .before .before .before .before .before .before .before .before .before .before .before .before .before .before .before .before in
-    λ policies counts. enables (at x policies counts) (x .args .flow) (c .before .before .before .before .before .before .before .before .before .before .before .before .before .before .before .before .if1 .left) (c .before .before .before .before .before .before .before .before .before .before .before .before .before .if2 .left) (c .before .before .before .before .before .before .before .before .before .before .before .if3 .left) (c .before .before .before .before .before .before .before .before .if4 .left) (c .before .before .before .before .before .before .if5 .left) (c .before .before .before .before .append .ensures) (c .before .before .propagate .ensures .0) (c .before .before .propagate .ensures .1 .1)
+    let e5 = c .before .before .before .before .before .before in
+    let e4 = e5 .before .before in
+    let e3 = e4 .before .before .before in
+    let e2 = e3 .before .before in
+    let e1 = e2 .before .before .before in
+    let x = e1 .before .before .before .before in
+    let made = c .before .before .propagate .ensures in
+    λ policies counts.
+    enables (at x policies counts) (x .args .flow) (e1 .if1 .left) (e2 .if2 .left) (e3 .if3 .left) (e4 .if4 .left) (e5 .if5 .left)
+    (c .before .before .before .before .append .ensures) (made .0) (made .1 .1)
 
 pub apply-enable-spec : {M : Type 1} → statement M
 apply-enable-spec =
