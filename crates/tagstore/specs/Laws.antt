@@ -104,8 +104,7 @@ put-beyond n ws k s h =
 pub put-same : (ws : List ℕ) (k : ℕ) → putSet ws k (setAt ws k) ≡ ws
 unfolding putSet setAt
 put-same ws k =
-    ap₂ (λ (l : List ℕ) (x : ℕ). set l (4 * k + 3) x) (ap₂ (λ (l : List ℕ) (x : ℕ). set l (4 * k + 2) x) (ap₂ (λ (l : List ℕ) (x : ℕ). set l (4 * k + 1) x) (set-getD ws (4 * k) 0) refl ∙ set-getD ws (4 * k + 1) 0) refl ∙ set-getD ws (4 * k + 2) 0) refl
-    ∙ set-getD ws (4 * k + 3) 0
+    rw (set-getD ws (4 * k) 0, set-getD ws (4 * k + 1) 0, set-getD ws (4 * k + 2) 0, set-getD ws (4 * k + 3) 0) refl
 
 -- where every word has 64 bits, so it is after such a set is put
 pub put-fits : (ws : List ℕ) (k : ℕ) (s : TagSet) → IsWords s → Fit64 ws → Fit64 (putSet ws k s)

@@ -27,8 +27,11 @@ refused-requires c κs = search needs
 returns : tie.Need-returns
 unfolding flowsOf
 returns c =
-    let x = c .before .before .before .before in
-    λ tags policies counts. left-refused (at x tags policies counts) (c .refused .ensures) (not-enabled (at x tags policies counts) (x .args .number) (sym (c .before .enum-told .given .1) ∙ c .before .before .before .find .ensures))
+    let f = c .before .before .before in
+    let x = f .before in
+    λ tags policies counts.
+    left-refused (at x tags policies counts) (c .refused .ensures)
+    (not-enabled (at x tags policies counts) (x .args .number) (sym (c .before .enum-told .given .1) ∙ f .find .ensures))
 
 sub-t8 : tie.Need-sub-t8
 unfolding flowsOf
@@ -42,8 +45,10 @@ remove-requires c κs = search needs
 returns-2 : tie.Need-returns-2
 unfolding flowsOf
 returns-2 c =
-    let x = c .before .before .before .before .before .before in
-    λ tags policies counts. disables (at x tags policies counts) (x .args .number) (sym (c .before .before .before .found .given .1) ∙ c .before .before .before .before .before .find .ensures) (c .remove .ensures)
+    let f = c .before .before .before .before .before in
+    let x = f .before in
+    λ tags policies counts.
+    disables (at x tags policies counts) (x .args .number) (sym (c .before .before .before .found .given .1) ∙ f .find .ensures) (c .remove .ensures)
 
 pub apply-disable-spec : {M : Type 1} → statement M
 apply-disable-spec =

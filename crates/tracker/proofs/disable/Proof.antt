@@ -36,19 +36,24 @@ apply-disable-requires c κs = search needs
 
 returns : tie.Need-returns
 returns c =
-    let x = c .before .before .before .before .before .before .before in
-    left-refused (at x) (c .refused .ensures) (disable-judged (at x) (x .args .number) 8 (sym (c .before .before .before .judge .ensures) ∙ ap judgementOf (c .before .enum-told .given .1)))
+    let j = c .before .before .before in
+    let x = j .before .before .before .before in
+    left-refused (at x) (c .refused .ensures)
+    (disable-judged (at x) (x .args .number) 8 (sym (j .judge .ensures) ∙ ap judgementOf (c .before .enum-told .given .1)))
 
 returns-2 : tie.Need-returns-2
 returns-2 c =
-    let x = c .before .before .before .before .before .before .before in
-    left-refused (at x) (c .refused2 .ensures) (disable-judged (at x) (x .args .number) 11 (sym (c .before .before .before .judge .ensures) ∙ ap judgementOf (c .before .enum-told2 .given .1)))
+    let j = c .before .before .before in
+    let x = j .before .before .before .before in
+    left-refused (at x) (c .refused2 .ensures)
+    (disable-judged (at x) (x .args .number) 11 (sym (j .judge .ensures) ∙ ap judgementOf (c .before .enum-told2 .given .1)))
 
 returns-3 : tie.Need-returns-3
 returns-3 c =
-    let x = c .before .before .before .before .before .before .before in
+    let j = c .before .before .before in
+    let x = j .before .before .before .before in
     c .apply-disable .ensures (x .args .tags .now) (x .args .policies .now) (x .args .counts .now)
-    ∙ apply-disable (at x) (judged-usable (at x) (sym (c .before .before .before .judge .ensures) ∙ ap judgementOf (c .before .enum-told3 .given .1))) (x .args .number)
+    ∙ apply-disable (at x) (judged-usable (at x) (sym (j .judge .ensures) ∙ ap judgementOf (c .before .enum-told3 .given .1))) (x .args .number)
 
 pub disable-spec : {M : Type 1} → statement M
 disable-spec =

@@ -39,25 +39,32 @@ same-length c = search needs
 
 returns : tie.Need-returns
 returns c =
-    let x = c .before .before .before .before .before .before .before .before in
-    left-refused (at x) (c .refused .ensures) (enable-judged (at x) (x .args .flow) 8 (sym (c .before .before .before .judge .ensures) ∙ ap judgementOf (c .before .enum-told .given .1)))
+    let j = c .before .before .before in
+    let x = j .before .before .before .before .before in
+    left-refused (at x) (c .refused .ensures)
+    (enable-judged (at x) (x .args .flow) 8 (sym (j .judge .ensures) ∙ ap judgementOf (c .before .enum-told .given .1)))
 
 same-length-2 : tie.Need-same-length-2
 same-length-2 c = search needs
 
 returns-2 : tie.Need-returns-2
 returns-2 c =
-    let x = c .before .before .before .before .before .before .before .before in
-    left-refused (at x) (c .refused2 .ensures) (enable-judged (at x) (x .args .flow) 11 (sym (c .before .before .before .judge .ensures) ∙ ap judgementOf (c .before .enum-told2 .given .1)))
+    let j = c .before .before .before in
+    let x = j .before .before .before .before .before in
+    left-refused (at x) (c .refused2 .ensures)
+    (enable-judged (at x) (x .args .flow) 11 (sym (j .judge .ensures) ∙ ap judgementOf (c .before .enum-told2 .given .1)))
 
 same-length-3 : tie.Need-same-length-3
 same-length-3 c = search needs
 
 returns-3 : tie.Need-returns-3
 returns-3 c =
-    let x = c .before .before .before .before .before .before .before .before .before .before .before in
+    let j = c .before .before .before .before .before .before in
+    let x = j .before .before .before .before .before in
+    let told = c .before .before .before .before .enum-told3 .given .1 in
     c .before .before .apply-enable .ensures (x .args .policies .now) (x .args .counts .now)
-    ∙ apply-enable (at x) (judged-usable (at x) (sym (c .before .before .before .before .before .before .judge .ensures) ∙ ap judgementOf (c .before .before .before .before .enum-told3 .given .1))) (x .args .flow) (λ k. c .before .before .before .before .before .before .before .before .before .before .slice-known .given k .fits)
+    ∙ apply-enable (at x) (judged-usable (at x) (sym (j .judge .ensures) ∙ ap judgementOf told)) (x .args .flow)
+    (λ k. j .before .before .before .before .slice-known .given k .fits)
 
 pub enable-spec : {M : Type 1} → statement M
 enable-spec =

@@ -23,7 +23,8 @@ returns : tie.Need-returns
 returns c =
     let x = c .before .before .before .before .before .before in
     let a = x .args in
-    left-refused (stateOf noHeader (a .tags .now) (a .policies .now) (a .counts .now) (a .flows)) (c .refused .ensures) (start-judged (a .n) (a .tags .now) (a .policies .now) (a .counts .now) (a .flows) (long x) (c .before .before .bad-size .ensures) (c .before .if1 .taken))
+    left-refused (stateOf noHeader (a .tags .now) (a .policies .now) (a .counts .now) (a .flows)) (c .refused .ensures)
+    (start-judged (a .n) (a .tags .now) (a .policies .now) (a .counts .now) (a .flows) (long x) (c .before .before .bad-size .ensures) (c .before .if1 .taken))
 
 store-own-tags-requires : tie.Need-store-own-tags-requires
 store-own-tags-requires c κs = search needs
@@ -48,9 +49,14 @@ same-length-3 c = search needs
 
 returns-2 : tie.Need-returns-2
 returns-2 c =
-    let x = c .before .before .before .before .before .before .before .before .before .before .before .before .before .before .before .before .before in
+    let bytes = c .before .before in
+    let words = bytes .before .before .before .before in
+    let own = words .before .before .before .before in
+    let e1 = own .before .before in
+    let x = e1 .before .before .before .before .before in
     let a = x .args in
-    start-done (a .n) (a .tags .now) (a .policies .now) (a .counts .now) (a .flows) (long x) (c .before .before .before .before .before .before .before .before .before .before .before .before .before .bad-size .ensures) (c .before .before .before .before .before .before .before .before .before .before .before .before .if1 .left) (c .before .before .before .before .before .before .before .before .before .before .store-own-tags .ensures) (c .before .before .before .before .before .before .clear-words .ensures) (c .before .before .clear-bytes .ensures)
+    start-done (a .n) (a .tags .now) (a .policies .now) (a .counts .now) (a .flows) (long x) (e1 .before .bad-size .ensures) (e1 .if1 .left)
+    (own .store-own-tags .ensures) (words .clear-words .ensures) (bytes .clear-bytes .ensures)
 
 pub start-spec : {M : Type 1} → statement M
 start-spec =
