@@ -1,7 +1,7 @@
 -- THE CLAIMS: what is true of the definitions that the running calls equal, each with the demand that it answers; then of the calls, one by one.
 -- The definitions: model/specs/Model.antt (containers, flows, executions; no word of a tracker) and Reach.antt; state/specs/State.antt and Valid.antt;
--- Outcome.antt; with tagset/specs/Set.antt and refusal/specs/Order.antt (`firstOf`, IsFirst). For the running calls: Answer.antt (what the contracts
--- cite), Apply.antt, propagation/specs/Pass.antt.
+-- Outcome.antt; with tagset/specs/Set.antt and refusal/specs/Order.antt (`firstOf`, IsFirst). For the running calls: Replies.antt (what the contracts
+-- cite), Unjudged.antt, propagation/specs/Pass.antt.
 -- Words of the claims: IsSized, ProperEnds, Rising, IsValid, Usable (state/specs/IsValid.antt); Fit64 (state/specs/Layout.antt); StartAnswers, Enables,
 -- EnableAnswers, DisableAnswers (Table.antt); Sentence, IsStarted, FlowsChanged (Steps.antt); SameBeyond (Effects.antt); totalOf (tagstore/specs/Store.antt); Follows (Follows.antt); StartDoes,
 -- EnableDoes, DisableDoes, Run (Running.antt);
@@ -32,9 +32,9 @@ use Rattle.tagstore.specs.Store.{totalOf}
 use Rattle.propagation.specs.Pass.{adds, passed, passesOf, passedOver, addedOver}
 use Rattle.propagation.specs.Exact.{passes-add, passes-last}
 use Rattle.tracker.specs.declared.Answered.{Answered}
-use Rattle.tracker.specs.Answer.{answerOf, leftBy}
-use Rattle.tracker.specs.Apply.{applyEnableOf, applyDisableOf}
-use Rattle.tracker.specs.ApplyLaws.{passes-propagate, passes-gain, apply-enable, apply-disable}
+use Rattle.tracker.specs.Replies.{answerOf, leftBy}
+use Rattle.tracker.specs.Unjudged.{applyEnableOf, applyDisableOf}
+use Rattle.tracker.specs.UnjudgedLaws.{passes-propagate, passes-gain, apply-enable, apply-disable}
 use Rattle.tracker.specs.Running.{StartDoes, start-does, EnableDoes, enable-does, DisableDoes, disable-does, Run, run-is, run-of}
 use Rattle.tracker.specs.Outcome.{Outcome, startOrder, startOf, propagated, gainOf, enableOf, disableOf, Call, ask, orderOf, outcomeOf, eventsOf, after, configurationOf}
 use Rattle.tracker.specs.Refusals.{start-refusal, start-refused, call-refusal, call-refused}

@@ -8,9 +8,9 @@ pub mod Table
 pub mod Effects
 pub mod Follows
 pub mod Claims
-pub mod Answer
-pub mod Apply
-pub mod ApplyLaws
+pub mod Replies
+pub mod Unjudged
+pub mod UnjudgedLaws
 pub mod Judged
-pub mod Branches
+pub mod UnjudgedBranches
 pub mod Running

@@ -13,7 +13,7 @@ use native.Mathlib.Omega.{arith}
 use Rattle.tracker.specs.declared.Answered.{Answered}
 use Rattle.tracker.specs.declared.Reply.{Reply}
 use Rattle.tracker.specs.declared.Reply.the-variants.{Accepted, NoSuchContainer, SelfFlow, StaleNumber, TableFull, NotEnabled, BadSize, InvalidState}
-use Rattle.tracker.specs.Answer.{answerOf, givenBack, leftBy}
+use Rattle.tracker.specs.Replies.{answerOf, givenBack, leftBy}
 use Rattle.tracker.specs.Outcome.{Outcome, noHeader, startOf, gainOf, enableOf, disableOf, Call, ask, outcomeOf, after}
 use Rattle.tracker.specs.Refusals.{start-refused, call-refused, call-cases}
 use Rattle.tracker.specs.Table.{StartAnswers, start-answers, EnableAnswers, enable-answers, DisableAnswers, disable-answers, bad-size, invalid-state, no-such-from, no-such-to, self-flow, stale-number, table-full, not-enabled, accepted}

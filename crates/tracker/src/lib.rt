@@ -8,11 +8,11 @@ ghost use mathlib.Core.Path.{_≡_};
 ghost use mathlib.Core.List.{List};
 ghost use Prim.Native.Nat.{ℕ};
 ghost use Rattle.state.specs.State.{storageOf, stateOf};
-ghost use Rattle.tracker.specs.Answer.{givenBack, leftBy};
+ghost use Rattle.tracker.specs.Replies.{givenBack, leftBy};
 ghost use Rattle.tracker.specs.Outcome.{startOf, enableOf, disableOf};
-ghost use Rattle.tracker.specs.Apply.{applyEnableOf, applyDisableOf};
+ghost use Rattle.tracker.specs.Unjudged.{applyEnableOf, applyDisableOf};
 
-// What a call answers: that it is accepted, with its gain, or the refusal (specs/Answer.antt has the paper's numbers).
+// What a call answers: that it is accepted, with its gain, or the refusal (specs/Replies.antt has the paper's numbers).
 pub enum Reply {
     Accepted(u32),
     NoSuchContainer,

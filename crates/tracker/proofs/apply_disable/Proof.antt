@@ -4,7 +4,7 @@ use mathlib.Core.List.{List, []}
 use Prim.Native.Nat.{ℕ}
 use borrow.Author.Needs.{needs}
 use Rattle.state.specs.State.{State, stateOf, flowsOf}
-use Rattle.tracker.specs.Branches.{left-refused, not-enabled, some-enabled, disables}
+use Rattle.tracker.specs.UnjudgedBranches.{left-refused, not-enabled, some-enabled, disables}
 use Rattle.tracker.proofs.apply_disable.Statement.{statement}
 use Rattle.tracker.proofs.apply_disable.Tie as tie
 

@@ -4,7 +4,7 @@ use Prim.Native.Nat.{ℕ}
 use native.Mathlib.Omega.{arith}
 use borrow.Author.Needs.{needs}
 use Rattle.state.specs.State.{State, stateOf}
-use Rattle.tracker.specs.Branches.{left-refused, no-from, no-to, self-flow, stale, full, enables}
+use Rattle.tracker.specs.UnjudgedBranches.{left-refused, no-from, no-to, self-flow, stale, full, enables}
 use Rattle.tracker.proofs.apply_enable.Statement.{statement}
 use Rattle.tracker.proofs.apply_enable.Tie as tie
 

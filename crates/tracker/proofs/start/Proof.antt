@@ -5,7 +5,7 @@ use borrow.Author.Needs.{needs}
 use Rattle.state.specs.State.{stateOf}
 use Rattle.tracker.specs.Outcome.{noHeader}
 use Rattle.tracker.specs.Judged.{start-judged, start-done}
-use Rattle.tracker.specs.Branches.{left-refused}
+use Rattle.tracker.specs.UnjudgedBranches.{left-refused}
 use Rattle.tracker.proofs.start.Statement.{statement}
 use Rattle.tracker.proofs.start.Tie as tie
 

@@ -18,10 +18,10 @@ use Rattle.propagation.specs.Pass.{passedOver, addedOver}
 use Rattle.tracker.specs.declared.Answered.{Answered}
 use Rattle.tracker.specs.declared.Reply.{Reply}
 use Rattle.tracker.specs.declared.Reply.the-variants.{Accepted}
-use Rattle.tracker.specs.Answer.{refused, answerOf, givenBack, leftBy}
+use Rattle.tracker.specs.Replies.{refused, answerOf, givenBack, leftBy}
 use Rattle.tracker.specs.Outcome.{Outcome, decided, enableOrder, disableOrder}
 use Rattle.tracker.specs.Judged.{refuses}
-use Rattle.tracker.specs.Apply.{appendedTo, carrying, applyEnableOf, applyDisableOf}
+use Rattle.tracker.specs.Unjudged.{appendedTo, carrying, applyEnableOf, applyDisableOf}
 
 -- the outcome of a refusal
 abbrev pub refusedIn : State → ℕ → Outcome

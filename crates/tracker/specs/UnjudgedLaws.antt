@@ -29,7 +29,7 @@ use Rattle.tracker.specs.Table.{Enables}
 use Rattle.tracker.specs.Stays.{usable-count, propagated-length, propagated-keeps, flows-within, changed-flows, enable-usable}
 use Rattle.tracker.specs.Steps.{enable-accepted}
 use Rattle.tracker.specs.Effects.{gain-total, propagated-beyond}
-use Rattle.tracker.specs.Apply.{appendedTo, carrying, applyEnableOf, applyDisableOf}
+use Rattle.tracker.specs.Unjudged.{appendedTo, carrying, applyEnableOf, applyDisableOf}
 
 -- PASSES AND THE CLOSURE
 
