@@ -1,4 +1,4 @@
 pub mod Pass
 pub mod Bench
-pub mod Turns
 pub mod Exact
+pub mod Turns

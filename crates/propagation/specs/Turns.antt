@@ -1,26 +1,29 @@
--- What the loops of propagation need: sets copied one word more, ways carried one more, passes made one more. Assumes nothing.
+-- What the functions of propagation need: sets copied one word more, an edge that changes nothing, edges carried flow by flow, one pass made after the others.
+-- Assumes nothing.
 use mathlib.Core.Path.{_≡_, refl, sym, ap, ap₂, _∙_, subst}
-use mathlib.Core.Bool.{true, false, and-false}
-use mathlib.Core.List.{List, [], _∷_, _++_}
-use Prim.Native.Nat.{ℕ, zero, suc, _+_, _*_, _-_, _≤_, _<_}
-use native.Mathlib.Nat.{zero-add, sub-zero, not-suc-le-zero, le-of-suc-le-suc}
+use mathlib.Core.Bool.{true, false≢true}
+use mathlib.Core.Logic.{_⊎_, ⊎-elim, by-cases}
+use mathlib.Core.List.{List, [], _∷_, _++_, append-assoc, append-nil}
+use Prim.Native.Nat.{ℕ, zero, suc, _+_, _*_, _≤_, _<_}
+use native.Mathlib.Nat.{zero-add, not-suc-le-zero, le-of-suc-le-suc}
 use native.Mathlib.Numerals.{add-one}
+use native.Mathlib.Decide.{decLt}
 use native.Mathlib.Omega.{arith}
 use lib.Dec.{ltb}
 use lib.ListN.{length, getD, set, take, drop, List·getD-append}
 use lib.Seq.{getD-take, length-take-le, paste-suc}
-use borrow.Author.Tests.{lt-ltb, le-ltb, ltb-true}
+use borrow.Author.Tests.{lt-ltb, le-ltb}
 use borrow.Table.Steps.{cases}
 use Rattle.model.specs.declared.Flow.{Flow}
-use Rattle.model.specs.Model.{edgesOf}
-use Rattle.tagset.specs.declared.TagSet.{TagSet}
-use Rattle.tagset.specs.Set.{unionOf, sameOf, sizeOf, IsWords}
-use Rattle.tagset.specs.Laws.{same-eq, union-words, size-mono, union-upper-left}
+use Rattle.model.specs.Model.{edges, edgesOf}
+use Rattle.tagset.specs.Set.{unionOf, sameOf, sizeOf}
+use Rattle.tagset.specs.Laws.{same-eq, union-words}
 use Rattle.state.specs.State.{setAt}
 use Rattle.state.specs.Layout.{Fit64, set-fits}
-use Rattle.tagstore.specs.Store.{putSet, totalOf}
-use Rattle.tagstore.specs.Laws.{set-cong, put-same, total-put, total-le}
-use Rattle.propagation.specs.Pass.{carried, carriedAll, pass, passed, adds, passesUpTo, passesOf, setsIn, passesOver, passedOver, addedOver}
+use Rattle.tagstore.specs.Store.{putSet}
+use Rattle.tagstore.specs.Laws.{set-cong, put-same, total-le}
+use Rattle.propagation.specs.Pass.{inside, carried, newTags, carriedAll, newInAll, pass, passed, newInPasses, adds, passesOf}
+use Rattle.propagation.specs.Exact.{inside-iff, edge-inside, edge-outside, new-total, passed-length, passed-suc, adds-new, passes-total, passes-some, passes-add, passes-last}
 
 -- COPYING
 
@@ -41,169 +44,141 @@ copied-at m s d i z hs h =
 copied-set : (n : ℕ) (ws vs : List ℕ) (k : ℕ) → 4 * n ≤ length ws → k < n → setAt (take (4 * n) ws ++ drop (4 * n) vs) k ≡ setAt ws k
 copied-set n ws vs k hw h = set-cong (take (4 * n) ws ++ drop (4 * n) vs) ws k (λ i l. copied-at (4 * n) ws vs i 0 hw (omega arith))
 
--- ONE WAY
+-- ONE EDGE
 
-module _ (n : ℕ) (found : List ℕ) (a b : ℕ) (ws : List ℕ) where
-  -- a way with a source of n or more carries nothing
-  pub carried-from-past : n ≤ a → carried n found (a, b) ws ≡ ws
-  unfolding carried
-  carried-from-past h = simp (le-ltb a n h)
+-- an edge with an end of n or more does nothing
+pub edge-past : (n : ℕ) (found : List ℕ) (e : ℕ × ℕ) (ws : List ℕ) → (n ≤ e .0) ⊎ (n ≤ e .1) → (ws ≡ carried n found e ws) × (0 ≡ newTags n found e ws)
+edge-past n found e ws past =
+    cases (inside n e) (λ q. let p = inside-iff n e .0 q in absurd (⊎-elim (λ l. omega arith) (λ l. omega arith) past))
+    (λ q. let none = edge-outside n found e ws q in (sym (none .0), sym (none .1)))
 
-  -- nor does one with such a destination
-  pub carried-to-past : n ≤ b → carried n found (a, b) ws ≡ ws
-  unfolding carried
-  carried-to-past h = simp (le-ltb b n h, and-false)
+-- nor does one that is inside, where the union is found the same as the set of its destination
+pub edge-same : (n : ℕ) (found : List ℕ) (e : ℕ × ℕ) (ws : List ℕ) → inside n e ≡ true → Fit64 found → Fit64 ws
+    → sameOf (unionOf (setAt ws (e .1)) (setAt found (e .0))) (setAt ws (e .1)) ≡ true → (ws ≡ carried n found e ws) × (0 ≡ newTags n found e ws)
+edge-same n found e ws q ff fw found-same =
+    let old = set-fits ws (e .1) fw in
+    let new = union-words (setAt ws (e .1)) (setAt found (e .0)) old (set-fits found (e .0) ff) in
+    let same = same-eq (unionOf (setAt ws (e .1)) (setAt found (e .0))) (setAt ws (e .1)) new old found-same in
+    let put = edge-inside n found e ws q in
+    (sym (put .0 ∙ ap (putSet ws (e .1)) same ∙ put-same ws (e .1)), omega (arith, put .1, ap sizeOf same))
 
-  module _ (ha : a < n) (hb : b < n) where
-    -- a way between the first n sets replaces the set of its destination
-    pub carried-put : carried n found (a, b) ws ≡ putSet ws b (unionOf (setAt ws b) (setAt found a))
-    unfolding carried
-    carried-put = simp (lt-ltb a n ha, lt-ltb b n hb)
+-- EDGES
 
-    -- and changes nothing where that is found the same
-    pub carried-same : Fit64 found → Fit64 ws → sameOf (unionOf (setAt ws b) (setAt found a)) (setAt ws b) ≡ true → carried n found (a, b) ws ≡ ws
-    carried-same ff fw e =
-        let old : IsWords (setAt ws b) = set-fits ws b fw in
-        let new : IsWords (unionOf (setAt ws b) (setAt found a)) = union-words (setAt ws b) (setAt found a) old (set-fits found a ff) in
-        carried-put ∙ ap (putSet ws b) (same-eq (unionOf (setAt ws b) (setAt found a)) (setAt ws b) new old e) ∙ put-same ws b
+-- carried along these edges the words ws became ws′, and `new` tags were new
+pub record Carried (n : ℕ) (found : List ℕ) (es : List (ℕ × ℕ)) (ws ws′ : List ℕ) (new : ℕ) : Type 0 where
+  pub sets : ws′ ≡ carriedAll n found es ws
+  pub count : new ≡ newInAll n found es ws
 
--- a union is no smaller
-pub union-grows : (s t : TagSet) → sizeOf s ≤ sizeOf (unionOf s t)
-union-grows s t = size-mono s (unionOf s t) (union-upper-left s t)
+-- along the edges of no flow
+pub carried-none : (n : ℕ) (found ws : List ℕ) → Carried n found (edgesOf []) ws ws 0
+unfolding carriedAll newInAll edgesOf
+carried-none n found ws = record { sets = refl; count = refl }
 
--- a set no smaller put for one of the first n adds the difference
-pub put-adds : (n : ℕ) (ws : List ℕ) (k : ℕ) (s : TagSet) → k < n → 4 * n ≤ length ws → sizeOf (setAt ws k) ≤ sizeOf s
-    → totalOf n ws + (sizeOf s - sizeOf (setAt ws k)) ≡ totalOf n (putSet ws k s)
-put-adds n ws k s h l g = omega (arith, total-put n ws k s h l)
+-- the new tags are no more than n sets have room for
+pub carried-fits : {n : ℕ} {found : List ℕ} {es : List (ℕ × ℕ)} {ws ws′ : List ℕ} {new : ℕ} → 4 * n ≤ length ws → Carried n found es ws ws′ new → new ≤ 256 * n
+carried-fits {n} {found} {es} {ws} h p = omega (arith, new-total n found es ws h, total-le n (carriedAll n found es ws))
 
--- A PASS
+-- along some edges and then others
+carried-on : (n : ℕ) (found : List ℕ) (es ds : List (ℕ × ℕ)) (ws : List ℕ)
+    → (carriedAll n found (es ++ ds) ws ≡ carriedAll n found ds (carriedAll n found es ws))
+    × (newInAll n found (es ++ ds) ws ≡ newInAll n found es ws + newInAll n found ds (carriedAll n found es ws))
+unfolding carriedAll newInAll
+carried-on n found [] ds ws = (refl, omega arith)
+carried-on n found (e ∷ es) ds ws =
+    let rest = carried-on n found es ds (carried n found e ws) in
+    (rest .0, omega (arith, rest .1))
 
--- only the first n of the sets found matter
-pub carried-cong : (n : ℕ) (found sets : List ℕ) (e : ℕ × ℕ) (ws : List ℕ) → ((k : ℕ) → k < n → setAt found k ≡ setAt sets k)
-    → carried n found e ws ≡ carried n sets e ws
-unfolding carried
-carried-cong n found sets (a, b) ws same =
-    cases (ltb a n) (λ l. rw (same a (ltb-true a n l))) (λ l. simp l)
+module _ (n : ℕ) (found sets : List ℕ) (same : (k : ℕ) → k < n → setAt found k ≡ setAt sets k) where
+  -- only the first n of the sets found matter to an edge
+  edge-cong : (e : ℕ × ℕ) (ws : List ℕ) → (carried n found e ws ≡ carried n sets e ws) × (newTags n found e ws ≡ newTags n sets e ws)
+  unfolding carried newTags
+  edge-cong e ws = cases (inside n e) (λ q. let s = same (e .0) (inside-iff n e .0 q .0) in (simp s, simp s)) (λ q. (rw q, rw q))
 
--- the last way carries last
-pub carried-last : (n : ℕ) (found : List ℕ) (es : List (ℕ × ℕ)) (e : ℕ × ℕ) (ws : List ℕ)
-    → carriedAll n found (es ++ (e ∷ [])) ws ≡ carried n found e (carriedAll n found es ws)
-unfolding carriedAll
-carried-last n found [] e ws = refl
-carried-last n found (x ∷ es) e ws = carried-last n found es e (carried n found x ws)
+  -- nor do others to all of them
+  found-cong : (es : List (ℕ × ℕ)) (ws : List ℕ)
+      → (carriedAll n found es ws ≡ carriedAll n sets es ws) × (newInAll n found es ws ≡ newInAll n sets es ws)
+  unfolding carriedAll newInAll
+  found-cong [] ws = (refl, refl)
+  found-cong (e ∷ es) ws =
+      let one = edge-cong e ws in
+      let rest = found-cong es (carried n sets e ws) in
+      (rw (one .0) (rest .0), rw (one .0) (omega (arith, one .1, rest .1)))
 
--- one flow more has one way more
-pub edges-more : (fs : List Flow) (k : ℕ) (d : Flow) → k < length fs
-    → edgesOf (take (k + 1) fs) ≡ edgesOf (take k fs) ++ ((getD fs k d .from, getD fs k d .to) ∷ [])
+-- the edges of one flow more
+edges-more : (fs : List Flow) (k : ℕ) (d : Flow) → k < length fs → edgesOf (take (k + 1) fs) ≡ edgesOf (take k fs) ++ edges (getD fs k d)
 unfolding edgesOf
 edges-more fs k d h = ap (λ (j : ℕ). edgesOf (take j fs)) (add-one k) ∙ more fs k h
   where
-    more : (fs : List Flow) (k : ℕ) → k < length fs → edgesOf (take (suc k) fs) ≡ edgesOf (take k fs) ++ ((getD fs k d .from, getD fs k d .to) ∷ [])
+    more : (fs : List Flow) (k : ℕ) → k < length fs → edgesOf (take (suc k) fs) ≡ edgesOf (take k fs) ++ edges (getD fs k d)
     more [] k h = absurd (not-suc-le-zero h)
-    more (f ∷ fs) zero h = refl
-    more (f ∷ fs) (suc k) h = ap (λ (es : List (ℕ × ℕ)). (f .from, f .to) ∷ es) (more fs k (le-of-suc-le-suc h))
+    more (f ∷ fs) zero h = append-nil (edges f)
+    more (f ∷ fs) (suc k) h =
+        ap (λ (es : List (ℕ × ℕ)). edges f ++ es) (more fs k (le-of-suc-le-suc h)) ∙ sym (append-assoc (edges f) (edgesOf (take k fs)) (edges (getD fs k d)))
 
--- no flow carries nothing
-pub no-flow-carried : (n : ℕ) (ws : List ℕ) → ws ≡ carriedAll n ws (edgesOf []) ws
-unfolding carriedAll edgesOf
-no-flow-carried n ws = refl
-
--- the ways of k flows carried from a copy of the sets that the pass began with, and that of one flow more
-pub flow-carried : (n : ℕ) (ws₀ old found ws ws′ : List ℕ) (fs : List Flow) (k : ℕ) (d : Flow) → k < length fs → 4 * n ≤ length ws₀
-    → found ≡ take (4 * n) ws₀ ++ drop (4 * n) old → ws ≡ carriedAll n ws₀ (edgesOf (take k fs)) ws₀
-    → ws′ ≡ carried n found (getD fs k d .from, getD fs k d .to) ws → ws′ ≡ carriedAll n ws₀ (edgesOf (take (k + 1) fs)) ws₀
-flow-carried n ws₀ old found ws ws′ fs k d h l copy before more =
-    let e : ℕ × ℕ = (getD fs k d .from, getD fs k d .to) in
-    more ∙ carried-cong n found ws₀ e ws (λ j g. ap (λ (x : List ℕ). setAt x j) copy ∙ copied-set n ws₀ old j l g) ∙ ap (carried n ws₀ e) before
-    ∙ sym (ap (λ (es : List (ℕ × ℕ)). carriedAll n ws₀ es ws₀) (edges-more fs k d h) ∙ carried-last n ws₀ (edgesOf (take k fs)) e ws₀)
-
--- the ways of all the flows carried are a pass
-pub pass-carried : (n : ℕ) (ws ws′ : List ℕ) (fs : List Flow) (k count : ℕ) → k ≤ count → count ≤ k
-    → ws′ ≡ carriedAll n ws (edgesOf (take k fs)) ws → ws′ ≡ pass n (edgesOf (take count fs)) ws
-unfolding pass
-pass-carried n ws ws′ fs k count h l e =
-    let q : k ≡ count = omega arith in
-    e ∙ ap (λ (j : ℕ). carriedAll n ws (edgesOf (take j fs)) ws) q
+-- carried along the edges of k flows from a copy of the sets that the pass began with, and then along those of one flow more
+pub flow-carried : {n : ℕ} {ws₀ found ws ws′ : List ℕ} (old : List ℕ) (fs : List Flow) (k : ℕ) (d : Flow) {added new : ℕ} → k < length fs → 4 * n ≤ length ws₀
+    → found ≡ take (4 * n) ws₀ ++ drop (4 * n) old → Carried n ws₀ (edgesOf (take k fs)) ws₀ ws added → Carried n found (edges (getD fs k d)) ws ws′ new
+    → Carried n ws₀ (edgesOf (take (k + 1) fs)) ws₀ ws′ (added + new)
+flow-carried {n} {ws₀} {found} {ws} old fs k d h l copy before more =
+    let on = carried-on n ws₀ (edgesOf (take k fs)) (edges (getD fs k d)) ws₀ in
+    let same =
+    found-cong n found ws₀ (λ j g. ap (λ (x : List ℕ). setAt x j) copy ∙ copied-set n ws₀ old j l g) (edges (getD fs k d)) ws in record {
+      sets = rw (edges-more fs k d h, on .0, ← before .sets) (more .sets ∙ same .0);
+      count = rw (edges-more fs k d h, on .1, ← before .sets) (omega (arith, same .1));
+    }
 
 -- THE PASSES
 
--- a pass that adds no tag is the last
-pub last-pass : (m n : ℕ) (es : List (ℕ × ℕ)) (ws : List ℕ) → adds n es ws ≡ false → passesUpTo m n es ws ≡ 1
-unfolding passesUpTo
-last-pass zero n es ws e = refl
-last-pass (suc m) n es ws e = rw e
+-- so many passes were made from the sets `first` on, and they are not all: the words became ws, and `gain` tags were new
+pub record Underway (n : ℕ) (es : List (ℕ × ℕ)) (first : List ℕ) (passes : ℕ) (ws : List ℕ) (gain : ℕ) : Type 0 where
+  pub fewer : passes < passesOf n es first
+  pub sets : ws ≡ passed passes n es first
+  pub count : gain ≡ newInPasses passes n es first
 
--- after one that adds a tag there are further passes
-pub next-pass : (m n : ℕ) (es : List (ℕ × ℕ)) (ws : List ℕ) → adds n es ws ≡ true
-    → passesUpTo (suc m) n es ws ≡ suc (passesUpTo m n es (pass n es ws))
-unfolding passesUpTo
-next-pass m n es ws e = rw e
+-- none made
+pub none-made : (n : ℕ) (es : List (ℕ × ℕ)) (ws : List ℕ) → Underway n es ws 0 ws 0
+unfolding passed newInPasses
+none-made n es ws = record { fewer = passes-some n es ws; sets = refl; count = refl }
 
--- some passes made from the sets `first` on, which each added a tag: the tags added, and what the passes to come will have made
-pub record Underway (n : ℕ) (es : List (ℕ × ℕ)) (first ws : List ℕ) (gain passes : ℕ) : Type 0 where
-  pub grown : totalOf n first + gain ≡ totalOf n ws
-  pub each : passes ≤ gain
-  pub number : passesOf n es first ≡ passes + passesUpTo (256 * n - passes) n es ws
-  pub sets : passed (passesOf n es first) n es first ≡ passed (passesUpTo (256 * n - passes) n es ws) n es ws
+-- the tags that are new in one pass more are those of the others and its own
+new-suc : (m n : ℕ) (es : List (ℕ × ℕ)) (ws : List ℕ)
+    → newInPasses (suc m) n es ws ≡ newInPasses m n es ws + newInAll n (passed m n es ws) es (passed m n es ws)
+unfolding newInPasses passed
+new-suc zero n es ws = omega arith
+new-suc (suc m) n es ws = omega (arith, new-suc m n es (pass n es ws))
 
--- no pass made
-pub none-made : (n : ℕ) (es : List (ℕ × ℕ)) (ws : List ℕ) → Underway n es ws ws 0 0
-unfolding passesOf
-none-made n es ws = record {
-  grown = omega arith;
-  each = omega arith;
-  number = omega (arith, ap (λ (m : ℕ). passesUpTo m n es ws) (sub-zero (256 * n)));
-  sets = ap (λ (m : ℕ). passed (passesUpTo m n es ws) n es ws) (sym (sub-zero (256 * n)));
-}
+module _ {n : ℕ} {es : List (ℕ × ℕ)} {first ws ws′ : List ℕ} {passes gain added : ℕ} (h : 4 * n ≤ length ws)
+    (u : Underway n es first passes ws gain) (made : Carried n ws es ws ws′ added) where
+  -- the sets and the gain with this pass
+  with-it : (ws′ ≡ passed (passes + 1) n es first) × (gain + added ≡ newInPasses (passes + 1) n es first)
+  unfolding pass
+  with-it = (rw (add-one, passed-suc, ← u .sets) (made .sets), rw (add-one, new-suc, ← u .sets) (omega arith))
 
-module _ {n : ℕ} {es : List (ℕ × ℕ)} {first ws ws′ : List ℕ} {gain passes added : ℕ} (u : Underway n es first ws gain passes)
-    (made : ws′ ≡ pass n es ws) (counted : totalOf n ws′ ≡ totalOf n ws + added) where
-  -- a pass that the total grew by adds a tag
-  added-adds : 0 < added → adds n es ws ≡ true
-  unfolding adds
-  added-adds h = lt-ltb (totalOf n ws) (totalOf n (pass n es ws)) (omega (arith, ap (totalOf n) made))
+  -- it adds a tag exactly if it counts one
+  added-adds : adds n es (passed passes n es first) ≡ ltb 0 added
+  added-adds = rw (← u .sets) (adds-new n es ws h ∙ ap (ltb 0) (sym (made .count)))
 
-  -- and one that it did not grow by adds none
-  none-adds : added ≡ 0 → adds n es ws ≡ false
-  unfolding adds
-  none-adds h = le-ltb (totalOf n ws) (totalOf n (pass n es ws)) (omega (arith, ap (totalOf n) made))
+  -- the gain is no more than n sets have room for
+  pub gain-fits : gain + added ≤ 256 * n
+  gain-fits =
+      let room : 4 * n ≤ length first = omega (arith, ap length (u .sets), passed-length n es first passes) in
+      omega (arith, with-it .1, passes-total (passes + 1) n es first room, total-le n (passed (passes + 1) n es first))
 
-  -- a pass more that adds a tag
-  pub one-made : 0 < added → Underway n es first ws′ (gain + added) (passes + 1)
-  unfolding passed
-  one-made h =
-      let m : ℕ = 256 * n - (passes + 1) in
-      let e : 256 * n - passes ≡ suc m = omega (arith, u .grown, u .each, total-le n ws′) in
-      let next : passesUpTo (256 * n - passes) n es ws ≡ suc (passesUpTo m n es ws′) =
-      ap (λ (x : ℕ). passesUpTo x n es ws) e ∙ next-pass m n es ws (added-adds h)
-      ∙ ap (λ (x : List ℕ). suc (passesUpTo m n es x)) (sym made) in record {
-        grown = omega (arith, u .grown);
-        each = omega (arith, u .each);
-        number = omega (arith, u .number, next);
-        sets = u .sets ∙ ap (λ (x : ℕ). passed x n es ws) next ∙ ap (passed (passesUpTo m n es ws′) n es) (sym made);
-      }
+  -- where it counts a tag, it is not the last
+  pub one-made : 0 < added → Underway n es first (passes + 1) ws′ (gain + added)
+  one-made l = record {
+    fewer = by-cases (decLt (passes + 1) (passesOf n es first)) (λ p. p)
+        (λ p. absurd (false≢true (sym (passes-last n es first passes (omega arith)) ∙ added-adds ∙ lt-ltb 0 added l)));
+    sets = with-it .0;
+    count = with-it .1;
+  }
 
-  -- one that adds none ends them
-  pub all-made : added ≡ 0 → (ws′ ≡ passed (passesOf n es first) n es first) × (passes + 1 ≡ passesOf n es first)
-  unfolding passed
-  all-made h =
-      let last : passesUpTo (256 * n - passes) n es ws ≡ 1 = last-pass (256 * n - passes) n es ws (none-adds h) in (
-        made ∙ sym (u .sets ∙ ap (λ (x : ℕ). passed x n es ws) last),
-        omega (arith, u .number, last),
-      )
-
--- IN RANGE
-
--- the passes over the sets in range and as many flows are all that propagation makes
-pub over-made : (n m : ℕ) (fs gs : List Flow) (ws ws′ : List ℕ) (passes gain : ℕ) → m ≡ setsIn n ws → gs ≡ fs
-    → ws′ ≡ passed (passesOf m (edgesOf gs) ws) m (edgesOf gs) ws → passes ≡ passesOf m (edgesOf gs) ws → totalOf m ws + gain ≡ totalOf m ws′
-    → (ws′ ≡ passedOver n fs ws) × ((passes ≡ passesOver n fs ws) × (gain ≡ addedOver n fs ws))
-unfolding passesOver passedOver addedOver
-over-made n m fs gs ws ws′ passes gain in-range same sets number grown =
-    let made : ws′ ≡ passed (passesOf (setsIn n ws) (edgesOf fs) ws) (setsIn n ws) (edgesOf fs) ws =
-    sets ∙ ap₂ (λ (k : ℕ) (l : List Flow). passed (passesOf k (edgesOf l) ws) k (edgesOf l) ws) in-range same in
-    let before = ap (λ (k : ℕ). totalOf k ws) in-range in
-    let after = ap₂ totalOf in-range made in (
-      made,
-      (number ∙ ap₂ (λ (k : ℕ) (l : List Flow). passesOf k (edgesOf l) ws) in-range same, omega (arith, before, after)),
-    )
+  -- where it counts none, it is
+  pub all-made : added ≡ 0
+      → (ws′ ≡ passed (passesOf n es first) n es first)
+      × ((passes + 1 ≡ passesOf n es first) × (gain + added ≡ newInPasses (passesOf n es first) n es first))
+  all-made e =
+      let last : passes + 1 ≡ passesOf n es first =
+      by-cases (decLt (passes + 1) (passesOf n es first))
+      (λ p. absurd (false≢true (sym (added-adds ∙ le-ltb 0 added (omega arith)) ∙ passes-add n es first passes p))) (λ p. omega arith) in
+      (rw (← last) (with-it .0), (last, rw (← last) (with-it .1)))

@@ -3,11 +3,10 @@ use model::Flow;
 use tagset::TagSet;
 ghost use mathlib.Core.Path.{_≡_};
 ghost use mathlib.Core.List.{_++_};
-ghost use Prim.Native.Nat.{_+_, _*_, _≤_};
+ghost use Prim.Native.Nat.{_*_, _≤_};
 ghost use lib.ListN.{length, take, drop};
-ghost use Rattle.model.specs.Model.{edgesOf};
-ghost use Rattle.tagstore.specs.Store.{totalOf};
-ghost use Rattle.propagation.specs.Pass.{carried, passed, passesOf, passesOver, passedOver, addedOver};
+ghost use Rattle.model.specs.Model.{edges, edgesOf};
+ghost use Rattle.propagation.specs.Pass.{carried, newTags, carriedAll, newInAll, passed, newInPasses, passesOf, passCount, setsAfter, pairsAdded};
 
 // The (tag, container) pairs that propagation added, and how many passes it made, the last included.
 pub struct Propagated {
@@ -18,9 +17,9 @@ pub struct Propagated {
 // Carries the tags of the first `containers` sets along the first `count` flows. It answers for any numbers and words: sets that the words do not
 // have, and those past the 256th, are left out, and so is a flow with such an end.
 pub fn propagate(tags: &mut [u64], containers: u32, flows: [Flow; 512], count: u32) -> Propagated
-    ensures sets { λ r. ⌜ now (tags .exit) ≡ passedOver containers (take count flows) (now (tags .entry)) ⌝ }
-    ensures passes { λ r. ⌜ r .passes ≡ passesOver containers (take count flows) (now (tags .entry)) ⌝ }
-    ensures gain { λ r. ⌜ r .gain ≡ addedOver containers (take count flows) (now (tags .entry)) ⌝ }
+    ensures sets { λ r. ⌜ now (tags .exit) ≡ setsAfter containers (take count flows) (now (tags .entry)) ⌝ }
+    ensures passes { λ r. ⌜ r .passes ≡ passCount containers (take count flows) (now (tags .entry)) ⌝ }
+    ensures gain { λ r. ⌜ r .gain ≡ pairsAdded containers (take count flows) (now (tags .entry)) ⌝ }
 {
     let sets = tags.len() / 4;
     let most = if sets < 256 { sets as u32 } else { 256 };
@@ -34,7 +33,7 @@ fn make_passes(tags: &mut [u64], n: u32, flows: [Flow; 512], count: u32) -> Prop
     requires { ⌜ (n ≤ 256) × (4 * n ≤ length (now tags)) × (count ≤ 512) ⌝ }
     ensures sets { λ r. ⌜ now (tags .exit) ≡ passed (passesOf n (edgesOf (take count flows)) (now (tags .entry))) n (edgesOf (take count flows)) (now (tags .entry)) ⌝ }
     ensures passes { λ r. ⌜ r .passes ≡ passesOf n (edgesOf (take count flows)) (now (tags .entry)) ⌝ }
-    ensures gain { λ r. ⌜ totalOf n (now (tags .entry)) + r .gain ≡ totalOf n (now (tags .exit)) ⌝ }
+    ensures gain { λ r. ⌜ r .gain ≡ newInPasses (passesOf n (edgesOf (take count flows)) (now (tags .entry))) n (edgesOf (take count flows)) (now (tags .entry)) ⌝ }
 {
     let mut found = [0u64; 1024];
     let mut gain: u32 = 0;
@@ -45,7 +44,7 @@ fn make_passes(tags: &mut [u64], n: u32, flows: [Flow; 512], count: u32) -> Prop
         let mut k: usize = 0;
         while k < count as usize {
             let f = flows[k];
-            added += carry(&found, tags, n, f.from, f.to);
+            added += carry_flow(&found, tags, n, f);
             k += 1;
         }
         passes += 1;
@@ -57,11 +56,20 @@ fn make_passes(tags: &mut [u64], n: u32, flows: [Flow; 512], count: u32) -> Prop
     Propagated { gain, passes }
 }
 
-// Carries along one way: container b gets the tags that container a had when the pass began. Answers how many are new to b.
+// Carries along the edges of one flow: one, from its source to its destination. Answers how many tags are new.
+fn carry_flow(found: &[u64], tags: &mut [u64], n: u32, f: Flow) -> u32
+    requires { ⌜ (4 * n ≤ length (now found)) × (4 * n ≤ length (now tags)) ⌝ }
+    ensures sets { λ r. ⌜ now (tags .exit) ≡ carriedAll n (now (found .entry)) (edges f) (now (tags .entry)) ⌝ }
+    ensures gain { λ r. ⌜ r ≡ newInAll n (now (found .entry)) (edges f) (now (tags .entry)) ⌝ }
+{
+    carry(found, tags, n, f.from, f.to)
+}
+
+// Carries along one edge: container b gets the tags that container a had when the pass began. Answers how many are new to b.
 fn carry(found: &[u64], tags: &mut [u64], n: u32, a: u32, b: u32) -> u32
     requires { ⌜ (4 * n ≤ length (now found)) × (4 * n ≤ length (now tags)) ⌝ }
     ensures sets { λ r. ⌜ now (tags .exit) ≡ carried n (now (found .entry)) (a, b) (now (tags .entry)) ⌝ }
-    ensures gain { λ r. ⌜ totalOf n (now (tags .entry)) + r ≡ totalOf n (now (tags .exit)) ⌝ }
+    ensures gain { λ r. ⌜ r ≡ newTags n (now (found .entry)) (a, b) (now (tags .entry)) ⌝ }
 {
     if n <= a {
         return 0;

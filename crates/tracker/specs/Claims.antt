@@ -10,6 +10,7 @@ use mathlib.Core.Path.{_≡_, refl, sym, _∙_, subst}
 use mathlib.Core.Bool.{true, false}
 use mathlib.Core.List.{List, [], _∷_, _++_}
 use mathlib.Core.Logic.{_⊎_, _↔_, _≢_}
+use mathlib.Mathlib.Logic.Relation.{ReflTransGenᴰ}
 use Prim.Native.Nat.{ℕ, suc, _+_, _*_, _/_, _%_, _^_, _≤_, _<_}
 use native.Mathlib.Omega.{arith}
 use lib.Dec.{eqb}
@@ -29,8 +30,8 @@ use Rattle.state.specs.Valid.{validOf}
 use Rattle.state.specs.Layout.{Fit64, set-bit, flows-first, flows-count}
 use Rattle.state.specs.IsValid.{IsSized, sized, IsValid, valid, Usable}
 use Rattle.tagstore.specs.Store.{totalOf}
-use Rattle.propagation.specs.Pass.{adds, passed, passesOf, passedOver, addedOver}
-use Rattle.propagation.specs.Exact.{passes-add, passes-last}
+use Rattle.propagation.specs.Pass.{pass, adds, passed, passesOf, setsAfter, pairsAdded}
+use Rattle.propagation.specs.Exact.{pass-has, adds-iff, passes-some, passes-add, passes-last}
 use Rattle.tracker.specs.declared.Answered.{Answered}
 use Rattle.tracker.specs.Replies.{answerOf, leftBy}
 use Rattle.tracker.specs.Unjudged.{applyEnableOf, applyDisableOf}
@@ -40,7 +41,7 @@ use Rattle.tracker.specs.Outcome.{Outcome, startOrder, startOf, propagat
 use Rattle.tracker.specs.Refusals.{start-refusal, start-refused, call-refusal, call-refused}
 use Rattle.tracker.specs.Table.{StartAnswers, start-answers, EnableAnswers, enable-answers, DisableAnswers, disable-answers}
 use Rattle.tracker.specs.Stays.{settled}
-use Rattle.tracker.specs.Steps.{start-makes-usable, event-leaves-usable, call-keeps, usable-answers, Sentence, enable-sentence, disable-sentence, IsStarted, start-is-started, FlowsChanged, enable-flows, disable-flows}
+use Rattle.tracker.specs.Steps.{start-makes-usable, event-leaves-usable, call-keeps, usable-answers, Sentence, propagated-sentence, enable-sentence, disable-sentence, IsStarted, start-is-started, FlowsChanged, enable-flows, disable-flows}
 use Rattle.tracker.specs.Effects.{start-fits, call-fits, start-gains-nothing, SameBeyond, start-beyond, call-beyond, list-beyond, disable-tags, gain-counted, enable-gain, disable-gain}
 use Rattle.tracker.specs.Follows.{Follows, configuration-has, accepted-joins, calls-follow, begun-follows}
 
@@ -226,8 +227,8 @@ module _ (n : ℕ) (lent : Storage) (begun : startOf n lent .answer .refusal ≡
   demand-3 = exact-at n history (accepted-inside (accepted-each n (eventsOf calls))) (configurationOf tracker) (tracker-follows .sets)
 
 -- THE RUNNING CALLS (src/lib.rt). The contract of each is one equation: what the call gives back and leaves in the lent lists (`leftBy`) makes up the
--- outcome of its definition, for every number and every content and length of storage. So what is claimed above of the definitions is true of the
--- calls, one by one:
+-- outcome of its definition, for every number and every content and length of storage. It is the hypothesis here; the reader compares it with the line
+-- `ensures` there. So what is claimed above of the definitions is true of the calls, one by one:
 
 -- `start`: StartDoes gathers what is claimed of it (demand 1)
 pub what-start-does : (n : ℕ) (lent : Storage) (r : Answered) (tags policies counts : List ℕ) → leftBy r tags policies counts ≡ startOf n lent
@@ -263,21 +264,40 @@ pub what-apply-disable-does : (s : State) → Usable s → (k : ℕ) (r : Answer
     → DisableDoes s k (leftBy r (s .storage .tags) (s .storage .policies) (s .storage .policyCounts))
 what-apply-disable-does s u k r e = what-disable-does s k r (e ∙ apply-disable s u k)
 
--- PROPAGATION runs in passes, and these come, word by word, to what the sentence says; the pairs counted as they are added are the gain
-pub passes-come-to-the-sentence : (n : ℕ) (fs : List Flow) (ws : List ℕ) → n ≤ 256 → 4 * n ≤ length ws → Within n (edgesOf fs) → Fit64 ws
-    → passedOver n fs ws ≡ propagated n fs ws
-passes-come-to-the-sentence = passes-propagate
+-- PROPAGATION runs in passes. One pass gives each container what it had, and what the sources of its edges had when the pass began
+pub a-pass-reads-the-sets-found : (n : ℕ) (es : List (ℕ × ℕ)) (ws : List ℕ) → 4 * n ≤ length ws → (c t : ℕ) → c < n
+    → (has (setAt (pass n es ws) c) t ≡ true)
+    ↔ ((has (setAt ws c) t ≡ true) ⊎ ((a : ℕ) × (a < n) × ((a, c) ∈ es) × (has (setAt ws a) t ≡ true)))
+a-pass-reads-the-sets-found = pass-has
 
-pub pairs-added-are-the-gain : (n : ℕ) (fs : List Flow) (ws : List ℕ) → n ≤ 256 → 4 * n ≤ length ws → Within n (edgesOf fs) → Fit64 ws
-    → addedOver n fs ws ≡ gainOf n ws (propagated n fs ws)
-pairs-added-are-the-gain = passes-gain
+-- the passes stop at the first that adds no tag: there is one at least, each before the last adds a tag, and the last adds none
+pub a-pass-adds-exactly-if : (n : ℕ) (es : List (ℕ × ℕ)) (ws : List ℕ) → 4 * n ≤ length ws
+    → (adds n es ws ≡ true) ↔ ((c : ℕ) × (t : ℕ) × (c < n) × (has (setAt (pass n es ws) c) t ≡ true) × (has (setAt ws c) t ≡ false))
+a-pass-adds-exactly-if = adds-iff
 
--- each pass but the last adds a tag, and the last adds none
+pub there-is-a-pass : (n : ℕ) (es : List (ℕ × ℕ)) (ws : List ℕ) → 1 ≤ passesOf n es ws
+there-is-a-pass = passes-some
+
 pub every-pass-before-the-last-adds : (n : ℕ) (es : List (ℕ × ℕ)) (ws : List ℕ) (m : ℕ) → m + 1 < passesOf n es ws → adds n es (passed m n es ws) ≡ true
 every-pass-before-the-last-adds = passes-add
 
 pub the-last-pass-adds-nothing : (n : ℕ) (es : List (ℕ × ℕ)) (ws : List ℕ) (m : ℕ) → m + 1 ≡ passesOf n es ws → adds n es (passed m n es ws) ≡ false
 the-last-pass-adds-nothing = passes-last
+
+-- the sets after them are, word by word, those of the declarative definition, which has the tags of all containers from which there is a way; and the
+-- pairs counted edge by edge as they are added are the gain
+pub passes-come-to-the-closure : (n : ℕ) (fs : List Flow) (ws : List ℕ) → n ≤ 256 → 4 * n ≤ length ws → Within n (edgesOf fs) → Fit64 ws
+    → setsAfter n fs ws ≡ propagated n fs ws
+passes-come-to-the-closure = passes-propagate
+
+pub the-closure-is-the-sentence : (n : ℕ) (fs : List Flow) (ws : List ℕ) → Within n (edgesOf fs) → (b t : ℕ) → b < n
+    → (has (setAt (propagated n fs ws) b) t ≡ true)
+    ↔ ((a : ℕ) × (a < n) × (has (setAt ws a) t ≡ true) × ReflTransGenᴰ (λ x y. (x, y) ∈ edgesOf fs) a b)
+the-closure-is-the-sentence = propagated-sentence
+
+pub pairs-counted-are-the-gain : (n : ℕ) (fs : List Flow) (ws : List ℕ) → n ≤ 256 → 4 * n ≤ length ws → Within n (edgesOf fs) → Fit64 ws
+    → pairsAdded n fs ws ≡ gainOf n ws (propagated n fs ws)
+pairs-counted-are-the-gain = passes-gain
 
 -- CALLS THAT RAN one after the other are known by their contracts alone; every list of calls has such a run, from every start that is accepted
 pub every-list-has-a-run : (n : ℕ) (lent : Storage) → startOf n lent .answer .refusal ≡ 0 → (calls : List Call) → (s : State) × Run n lent calls s

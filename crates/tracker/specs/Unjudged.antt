@@ -7,7 +7,7 @@ use Rattle.refusal.specs.Order.{firstOf}
 use Rattle.model.specs.declared.Flow.{Flow}
 use Rattle.state.specs.State.{State, flowsOf}
 use Rattle.flowtable.specs.FlowTable.{placeOf, removedAt}
-use Rattle.propagation.specs.Pass.{passedOver, addedOver}
+use Rattle.propagation.specs.Pass.{setsAfter, pairsAdded}
 use Rattle.tracker.specs.Outcome.{Outcome, decided, stored, enableOrder, disableOrder}
 
 -- the flow stands in the first free place of the table, and the flows up to it carry
@@ -21,8 +21,8 @@ carrying s f = take (s .header .count + 1) (appendedTo s f)
 unfoldable pub applyEnableOf : State → Flow → Outcome
 applyEnableOf s f =
     let n = s .header .containers in
-    decided (firstOf (drop 2 (enableOrder s f)) 0) s (addedOver n (carrying s f) (s .storage .tags))
-    (stored s (s .header .count + 1) (appendedTo s f) (f .number) (passedOver n (carrying s f) (s .storage .tags)))
+    decided (firstOf (drop 2 (enableOrder s f)) 0) s (pairsAdded n (carrying s f) (s .storage .tags))
+    (stored s (s .header .count + 1) (appendedTo s f) (f .number) (setsAfter n (carrying s f) (s .storage .tags)))
 
 -- disabling where neither 9 nor 12 is judged
 unfoldable pub applyDisableOf : State → ℕ → Outcome

@@ -14,7 +14,7 @@ use Rattle.state.specs.State.{State, flowsOf}
 use Rattle.flowtable.specs.FlowTable.{foundIn, removedAt}
 use Rattle.flowtable.specs.Laws.{found-absent, found-place}
 use Rattle.flowtable.specs.declared.Found.the-variants.{At, Absent}
-use Rattle.propagation.specs.Pass.{passedOver, addedOver}
+use Rattle.propagation.specs.Pass.{setsAfter, pairsAdded}
 use Rattle.tracker.specs.declared.Answered.{Answered}
 use Rattle.tracker.specs.declared.Reply.{Reply}
 use Rattle.tracker.specs.declared.Reply.the-variants.{Accepted}
@@ -77,8 +77,8 @@ module _ (s : State) (f : Flow) where
 
           -- the work
           pub enables : s .header .count < 512 → {table : List Flow} {tags : List ℕ} {gain : ℕ} → table ≡ set (s .storage .flows) (s .header .count) f
-              → tags ≡ passedOver (s .header .containers) (take (s .header .count + 1) table) (s .storage .tags)
-              → gain ≡ addedOver (s .header .containers) (take (s .header .count + 1) table) (s .storage .tags)
+              → tags ≡ setsAfter (s .header .containers) (take (s .header .count + 1) table) (s .storage .tags)
+              → gain ≡ pairsAdded (s .header .containers) (take (s .header .count + 1) table) (s .storage .tags)
               → leftBy (givenBack (Accepted gain) (record { containers = s .header .containers; count = s .header .count + 1; greatest = f .number }) table) tags (s .storage .policies) (s .storage .policyCounts)
               ≡ applyEnableOf s f
           unfolding applyEnableOf enableOrder decided appendedTo carrying

@@ -17,11 +17,12 @@ use Rattle.state.specs.State.{State, badSize, setAt, flowsOf, withFlows}
 use Rattle.state.specs.Valid.{validOf}
 use Rattle.state.specs.Layout.{Fit64, set-fits}
 use Rattle.state.specs.IsValid.{sized, valid, Usable}
+use Rattle.tagstore.specs.Store.{totalOf}
 use Rattle.tagstore.specs.Laws.{words-ext}
 use Rattle.flowtable.specs.FlowTable.{placeOf, removedAt}
 use Rattle.flowtable.specs.Laws.{appended, appended-flows, without-count, removed}
-use Rattle.propagation.specs.Exact.{passed-length, passed-beyond, passed-fits, exact, setsIn-all}
-use Rattle.propagation.specs.Pass.{passesOf, passed, passesOver, passedOver, addedOver}
+use Rattle.propagation.specs.Exact.{passed-length, passed-beyond, passed-fits, exact, after-is, pairs-total}
+use Rattle.propagation.specs.Pass.{passesOf, passed, setsAfter, pairsAdded}
 use Rattle.tracker.specs.Outcome.{decided, stored, propagated, gainOf, changed, enabling, disabling, enableOrder, enableOf, disableOrder, disableOf, outcomeOf}
 use Rattle.tracker.specs.Refusals.{decided-number}
 use Rattle.tracker.specs.Propagation.{propagated-has, propagated-fits}
@@ -35,10 +36,9 @@ use Rattle.tracker.specs.Unjudged.{appendedTo, carrying, applyEnableOf, 
 
 -- passes over flows with ends below n leave, word by word, what the declarative definition says
 pub passes-propagate : (n : ℕ) (fs : List Flow) (ws : List ℕ) → n ≤ 256 → 4 * n ≤ length ws → Within n (edgesOf fs) → Fit64 ws
-    → passedOver n fs ws ≡ propagated n fs ws
-unfolding passedOver passesOver
+    → setsAfter n fs ws ≡ propagated n fs ws
 passes-propagate n fs ws small long w fit =
-    rw (setsIn-all n ws small long)
+    rw (after-is n fs ws small long)
     (words-ext n after (propagated n fs ws) (passed-length n es ws p ∙ sym (propagated-length n fs ws long))
     (λ c l. ext (setAt after c) (setAt (propagated n fs ws) c) (set-fits after c (passed-fits n es ws p fit)) (set-fits (propagated n fs ws) c (propagated-fits n fs ws fit)) (λ t h. same c t l))
     (passed-beyond n es ws p ∙ sym (propagated-beyond n fs ws)))
@@ -61,11 +61,9 @@ passes-propagate n fs ws small long w fit =
 
 -- the pairs that passes add are the gain
 pub passes-gain : (n : ℕ) (fs : List Flow) (ws : List ℕ) → n ≤ 256 → 4 * n ≤ length ws → Within n (edgesOf fs) → Fit64 ws
-    → addedOver n fs ws ≡ gainOf n ws (propagated n fs ws)
-unfolding addedOver
+    → pairsAdded n fs ws ≡ gainOf n ws (propagated n fs ws)
 passes-gain n fs ws small long w fit =
-    rw (setsIn-all n ws small long, passes-propagate n fs ws small long w fit)
-    (omega (arith, gain-total n ws (propagated n fs ws) (λ c l. subset-of-has (setAt ws c) (setAt (propagated n fs ws) c) (λ t h. propagated-keeps n fs ws w c t l h))))
+    (omega (arith, pairs-total n fs ws small long, ap (totalOf n) (passes-propagate n fs ws small long w fit), gain-total n ws (propagated n fs ws) (λ c l. subset-of-has (setAt ws c) (setAt (propagated n fs ws) c) (λ t h. propagated-keeps n fs ws w c t l h))))
 
 -- OUTCOMES
 
@@ -88,8 +86,8 @@ module _ (s : State) (u : Usable s) where
 
   -- an enable that is accepted leaves the same
   enable-work : (f : Flow) → Fit64 (s .storage .tags) → Enables s f
-      → (addedOver (s .header .containers) (carrying s f) (s .storage .tags) ≡ gainOf (s .header .containers) (s .storage .tags) (enabling s f .storage .tags))
-      × (stored s (s .header .count + 1) (appendedTo s f) (f .number) (passedOver (s .header .containers) (carrying s f) (s .storage .tags)) ≡ enabling s f)
+      → (pairsAdded (s .header .containers) (carrying s f) (s .storage .tags) ≡ gainOf (s .header .containers) (s .storage .tags) (enabling s f .storage .tags))
+      × (stored s (s .header .count + 1) (appendedTo s f) (f .number) (setsAfter (s .header .containers) (carrying s f) (s .storage .tags)) ≡ enabling s f)
   unfolding enabling changed
   enable-work f fit e =
       rw (carrying-is f (e .room)) (

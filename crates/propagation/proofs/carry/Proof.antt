@@ -1,26 +1,38 @@
--- `carry` meets its contract: the set that it puts is the union of those that it reads, by the laws of one way. Assumes nothing.
+-- `carry` meets its contract: the set that it puts is the union of those that it reads, by the laws of one edge. Assumes nothing.
 use mathlib.Core.Path.{_≡_, sym, ap, ap₂, _∙_}
-use Prim.Native.Nat.{ℕ, _+_, _-_}
+use mathlib.Core.Bool.{true}
+use mathlib.Core.Logic.{inl, inr}
+use Prim.Native.Nat.{ℕ, _+_}
 use native.Mathlib.Omega.{arith}
 use borrow.Author.Needs.{needs}
 use Rattle.tagset.specs.declared.TagSet.{TagSet}
 use Rattle.tagset.specs.Set.{unionOf, sameOf, sizeOf}
 use Rattle.state.specs.State.{setAt}
-use Rattle.tagstore.specs.Store.{putSet, totalOf}
+use Rattle.tagstore.specs.Store.{putSet}
 use Rattle.tagstore.specs.Laws.{load-whole, store-whole}
-use Rattle.propagation.specs.Turns.{carried-from-past, carried-to-past, carried-put, carried-same, union-grows, put-adds}
+use Rattle.propagation.specs.Pass.{inside, newTags}
+use Rattle.propagation.specs.Exact.{inside-iff, edge-inside}
+use Rattle.propagation.specs.Turns.{edge-past, edge-same}
 use Rattle.propagation.proofs.carry.Statement.{statement}
 use Rattle.propagation.proofs.carry.Tie as tie
 
--- set b, set a of the sets found, and their union
+-- the edge, and the tags new to its destination
+abbrev Edge : tie.Start → ℕ × ℕ
+Edge c = (c .args .a, c .args .b)
+
+abbrev Gain : tie.Start → ℕ
+Gain c = newTags (c .args .n) (c .args .found .now) (Edge c) (c .args .tags .now)
+
+-- set b, and its union with set a of the sets found
 abbrev Old : tie.Start → TagSet
 Old c = setAt (c .args .tags .now) (c .args .b)
 
-abbrev From : tie.Start → TagSet
-From c = setAt (c .args .found .now) (c .args .a)
-
 abbrev New : tie.Start → TagSet
-New c = unionOf (Old c) (From c)
+New c = unionOf (Old c) (setAt (c .args .found .now) (c .args .a))
+
+-- past both tests the edge is inside
+within : (c : tie.Else2) → inside (c .before .before .before .before .args .n) (Edge (c .before .before .before .before)) ≡ true
+within c = inside-iff _ (Edge (c .before .before .before .before)) .1 (c .before .if1 .left, c .if2 .left)
 
 -- what is read is set b
 old-is : (c : tie.After-load-set) → c .load-set .result ≡ Old (c .before .before .before .before .before .before)
@@ -30,26 +42,23 @@ old-is c = c .load-set .ensures ∙ load-whole _ _ (omega arith)
 new-is : (c : tie.After-union) → c .union .result ≡ New (c .before .before .before .before .before .before .before .before)
 new-is c = c .union .ensures ∙ ap₂ unionOf (old-is (c .before .before)) (c .before .load-set2 .ensures ∙ load-whole _ _ (omega arith))
 
--- the sizes counted
-new-size : (c : tie.After-size)
-    → let start = c .before .before .before .before .before .before .before .before .before .before .before .before .before .before .before in
-    c .size .result ≡ sizeOf (New start)
-new-size c =
-    let union = c .before .before .before .before .before .before .before in
-    c .size .ensures ∙ ap sizeOf (new-is union)
-
-old-size : (c : tie.After-size2)
+-- the union is larger by the new tags
+sizes : (c : tie.After-size2)
     → let start = c .before .before .before .before .before .before .before .before .before .before .before .before .before .before .before .before in
-    c .size2 .result ≡ sizeOf (Old start)
-old-size c =
-    let load = c .before .before .before .before .before .before .before .before .before .before in
-    c .size2 .ensures ∙ ap sizeOf (old-is load)
+    c .before .size .result ≡ c .size2 .result + Gain start
+sizes c =
+    let union = c .before .before .before .before .before .before .before .before in
+    let load = union .before .before in
+    let inside = load .before .before in
+    let start = inside .before .before .before .before in
+    let put = edge-inside (start .args .n) (start .args .found .now) (Edge start) (start .args .tags .now) (within inside) in
+    omega (arith, c .before .size .ensures, c .size2 .ensures, ap sizeOf (new-is union), ap sizeOf (old-is load), put .1)
 
 returns : tie.Need-returns
-returns c = (sym (carried-from-past _ _ _ _ _ (c .if1 .taken)), omega arith)
+returns c = edge-past _ _ (Edge (c .before .before .before)) _ (inl (c .if1 .taken))
 
 returns-2 : tie.Need-returns-2
-returns-2 c = (sym (carried-to-past _ _ _ _ _ (c .if2 .taken)), omega arith)
+returns-2 c = edge-past _ _ (Edge (c .before .before .before .before)) _ (inr (c .if2 .taken))
 
 load-set-requires : tie.Need-load-set-requires
 load-set-requires c κs = search needs
@@ -71,11 +80,9 @@ returns-3 c =
     let union = c .before .before in
     let load = union .before .before in
     let inside = load .before .before in
-    let known = inside .before .before in (
-      sym (carried-same _ _ _ _ _ (inside .before .if1 .left) (inside .if2 .left) (λ i. known .before .shared-slice-known .given i .fits)
-          (λ i. known .slice-known .given i .fits) (sym (ap₂ sameOf (new-is union) (old-is load)) ∙ sym (c .before .equals .ensures) ∙ c .if3 .taken)),
-      omega arith,
-    )
+    let known = inside .before .before in
+    edge-same _ _ (Edge (known .before .before)) _ (within inside) (λ i. known .before .shared-slice-known .given i .fits)
+    (λ i. known .slice-known .given i .fits) (sym (ap₂ sameOf (new-is union) (old-is load)) ∙ sym (c .before .equals .ensures) ∙ c .if3 .taken)
 
 store-set-requires : tie.Need-store-set-requires
 store-set-requires c κs = search needs
@@ -87,9 +94,7 @@ size-requires-2 : tie.Need-size-requires-2
 size-requires-2 c κs = search needs
 
 sub-result : tie.Need-sub-result
-sub-result c =
-    let start = c .before .before .before .before .before .before .before .before .before .before .before .before .before .before .before .before in
-    omega (arith, union-grows (Old start) (From start), new-size (c .before), old-size c)
+sub-result c = omega (arith, sizes c)
 
 same-length-2 : tie.Need-same-length-2
 same-length-2 c = search needs
@@ -99,14 +104,10 @@ returns-4 c =
     let union = c .before .before .before .before .before .before .before .before in
     let inside = union .before .before .before .before in
     let start = inside .before .before .before .before in
-    let n = start .args .n in
-    let tags = start .args .tags .now in
-    let b = start .args .b in
-    let stored = c .before .before .before .before .store-set .ensures in
-    let put = stored ∙ store-whole _ _ _ (omega arith) ∙ ap (putSet tags b) (new-is union) in (
-      put ∙ sym (carried-put _ _ _ _ _ (inside .before .if1 .left) (inside .if2 .left)),
-      ap₂ (λ (x y : ℕ). totalOf n tags + (x - y)) (new-size (c .before)) (old-size c)
-          ∙ put-adds n tags b (New start) (inside .if2 .left) (omega arith) (union-grows (Old start) (From start)) ∙ sym (ap (totalOf n) put),
+    let tags = start .args .tags .now in (
+      c .before .before .before .before .store-set .ensures ∙ store-whole _ _ _ (omega arith) ∙ ap (putSet tags (start .args .b)) (new-is union)
+          ∙ sym (edge-inside _ _ (Edge start) tags (within inside) .0),
+      omega (arith, sizes c),
     )
 
 pub carry-spec : {M : Type 1} → statement M

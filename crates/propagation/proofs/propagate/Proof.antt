@@ -6,8 +6,7 @@ use native.Mathlib.Omega.{arith}
 use lib.ListN.{length, take}
 use lib.Seq.{take-all}
 use borrow.Author.Needs.{needs}
-use Rattle.propagation.specs.Pass.{setsIn}
-use Rattle.propagation.specs.Turns.{over-made}
+use Rattle.propagation.specs.Pass.{setsIn, passCount, setsAfter, pairsAdded}
 use Rattle.propagation.proofs.propagate.Statement.{statement}
 use Rattle.propagation.proofs.propagate.Tie as tie
 
@@ -49,10 +48,10 @@ same-length : tie.Need-same-length
 same-length c = search needs
 
 returns : tie.Need-returns
+unfolding passCount setsAfter pairsAdded
 returns c =
-    let made = c .before .before .make-passes in
     let joined = c .before .before .before .before in
-    over-made _ _ _ _ _ _ _ _ (n-is (joined .before)) (last-is joined) (made .ensures .0) (made .ensures .1 .0) (made .ensures .1 .1)
+    rw (n-is (joined .before), last-is joined) at (c .before .before .make-passes .ensures)
 
 pub propagate-spec : {M : Type 1} → statement M
 propagate-spec = tie.close (tie.spec cast-most make-passes-requires same-length returns)
