@@ -37,13 +37,13 @@ use Rattle.tracker.specs.Replies.{answerOf, leftBy}
 use Rattle.tracker.specs.Unjudged.{applyEnableOf, applyDisableOf}
 use Rattle.tracker.specs.UnjudgedLaws.{passes-propagate, passes-gain, apply-enable, apply-disable}
 use Rattle.tracker.specs.Running.{StartDoes, start-does, EnableDoes, enable-does, DisableDoes, disable-does, Run, run-is, run-of}
-use Rattle.tracker.specs.Outcome.{Outcome, startOrder, startOf, propagated, gainOf, enableOf, disableOf, Call, ask, orderOf, outcomeOf, eventsOf, after, configurationOf}
-use Rattle.tracker.specs.Refusals.{start-refusal, start-refused, call-refusal, call-refused}
-use Rattle.tracker.specs.Table.{StartAnswers, start-answers, EnableAnswers, enable-answers, DisableAnswers, disable-answers}
-use Rattle.tracker.specs.Stays.{settled}
-use Rattle.tracker.specs.Steps.{start-makes-usable, event-leaves-usable, call-keeps, usable-answers, Sentence, propagated-sentence, enable-sentence, disable-sentence, IsStarted, start-is-started, FlowsChanged, enable-flows, disable-flows}
-use Rattle.tracker.specs.Effects.{start-fits, call-fits, start-gains-nothing, SameBeyond, start-beyond, call-beyond, list-beyond, disable-tags, gain-counted, enable-gain, disable-gain}
-use Rattle.tracker.specs.Follows.{Follows, configuration-has, accepted-joins, calls-follow, begun-follows}
+use Rattle.outcome.specs.Outcome.{Outcome, startOrder, startOf, propagated, gainOf, enableOf, disableOf, Call, ask, orderOf, outcomeOf, eventsOf, after, configurationOf}
+use Rattle.outcome.specs.Refusals.{start-refusal, start-refused, call-refusal, call-refused}
+use Rattle.outcome.specs.Table.{StartAnswers, start-answers, EnableAnswers, enable-answers, DisableAnswers, disable-answers}
+use Rattle.outcome.specs.Stays.{settled}
+use Rattle.outcome.specs.Steps.{start-makes-usable, event-leaves-usable, call-keeps, usable-answers, Sentence, propagated-sentence, enable-sentence, disable-sentence, IsStarted, start-is-started, FlowsChanged, enable-flows, disable-flows}
+use Rattle.outcome.specs.Effects.{start-fits, call-fits, start-gains-nothing, SameBeyond, start-beyond, call-beyond, list-beyond, disable-tags, gain-counted, enable-gain, disable-gain}
+use Rattle.outcome.specs.Follows.{Follows, configuration-has, accepted-joins, calls-follow, begun-follows}
 
 -- DEMAND 1: the work, or the refusal that comes first in the paper's order; a refused event changes nothing
 

@@ -15,7 +15,7 @@ use Rattle.tagstore.specs.Store.{zeroFront}
 use Rattle.tagstore.specs.Starting.{zero-front, own-all}
 use Rattle.validity.specs.Judge.{stateOrder}
 use Rattle.tracker.specs.Replies.{refused, givenBack, leftBy}
-use Rattle.tracker.specs.Outcome.{decided, noHeader, started, startOrder, startOf, enableOrder, enableOf, disableOrder, disableOf}
+use Rattle.outcome.specs.Outcome.{decided, noHeader, started, startOrder, startOf, enableOrder, enableOf, disableOrder, disableOf}
 use Rattle.tracker.specs.declared.Reply.the-variants.{Accepted}
 
 -- EVENTS

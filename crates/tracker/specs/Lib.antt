@@ -1,12 +1,3 @@
-pub mod Outcome
-pub mod Bench
-pub mod Refusals
-pub mod Propagation
-pub mod Stays
-pub mod Steps
-pub mod Table
-pub mod Effects
-pub mod Follows
 pub mod Claims
 pub mod Replies
 pub mod Unjudged

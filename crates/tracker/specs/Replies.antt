@@ -7,7 +7,7 @@ use Rattle.state.specs.State.{stateOf}
 use Rattle.tracker.specs.declared.Reply.{Reply}
 use Rattle.tracker.specs.declared.Reply.the-variants.{Accepted, NoSuchContainer, SelfFlow, StaleNumber, TableFull, NotEnabled, BadSize, InvalidState}
 use Rattle.tracker.specs.declared.Answered.{Answered}
-use Rattle.tracker.specs.Outcome.{Answer, Outcome}
+use Rattle.outcome.specs.Outcome.{Answer, Outcome}
 
 -- the refusal of this number, 'with all other numbers 0'
 abbrev pub refused : ℕ → Answer

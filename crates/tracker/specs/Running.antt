@@ -14,11 +14,11 @@ use Rattle.tracker.specs.declared.Answered.{Answered}
 use Rattle.tracker.specs.declared.Reply.{Reply}
 use Rattle.tracker.specs.declared.Reply.the-variants.{Accepted, NoSuchContainer, SelfFlow, StaleNumber, TableFull, NotEnabled, BadSize, InvalidState}
 use Rattle.tracker.specs.Replies.{answerOf, givenBack, leftBy}
-use Rattle.tracker.specs.Outcome.{Outcome, noHeader, startOf, gainOf, enableOf, disableOf, Call, ask, outcomeOf, after}
-use Rattle.tracker.specs.Refusals.{start-refused, call-refused, call-cases}
-use Rattle.tracker.specs.Table.{StartAnswers, start-answers, EnableAnswers, enable-answers, DisableAnswers, disable-answers, bad-size, invalid-state, no-such-from, no-such-to, self-flow, stale-number, table-full, not-enabled, accepted}
-use Rattle.tracker.specs.Steps.{start-makes-usable, event-leaves-usable, Sentence, enable-sentence, disable-sentence, IsStarted, start-is-started, FlowsChanged, enable-flows, disable-flows}
-use Rattle.tracker.specs.Effects.{SameBeyond, start-beyond, call-beyond, start-gains-nothing, gain-counted, start-fits, call-fits}
+use Rattle.outcome.specs.Outcome.{Outcome, noHeader, startOf, gainOf, enableOf, disableOf, Call, ask, outcomeOf, after}
+use Rattle.outcome.specs.Refusals.{start-refused, call-refused, call-cases}
+use Rattle.outcome.specs.Table.{StartAnswers, start-answers, EnableAnswers, enable-answers, DisableAnswers, disable-answers, bad-size, invalid-state, no-such-from, no-such-to, self-flow, stale-number, table-full, not-enabled, accepted}
+use Rattle.outcome.specs.Steps.{start-makes-usable, event-leaves-usable, Sentence, enable-sentence, disable-sentence, IsStarted, start-is-started, FlowsChanged, enable-flows, disable-flows}
+use Rattle.outcome.specs.Effects.{SameBeyond, start-beyond, call-beyond, start-gains-nothing, gain-counted, start-fits, call-fits}
 
 -- START: what is true of its outcome
 pub record StartDoes (n : ℕ) (lent : Storage) (o : Outcome) : Type 0 where

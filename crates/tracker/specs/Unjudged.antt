@@ -8,7 +8,7 @@ use Rattle.model.specs.declared.Flow.{Flow}
 use Rattle.state.specs.State.{State, flowsOf}
 use Rattle.flowtable.specs.FlowTable.{placeOf, removedAt}
 use Rattle.propagation.specs.Pass.{setsAfter, pairsAdded}
-use Rattle.tracker.specs.Outcome.{Outcome, decided, stored, enableOrder, disableOrder}
+use Rattle.outcome.specs.Outcome.{Outcome, decided, stored, enableOrder, disableOrder}
 
 -- the flow stands in the first free place of the table, and the flows up to it carry
 unfoldable pub appendedTo : State → Flow → List Flow

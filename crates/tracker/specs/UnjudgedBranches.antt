@@ -19,7 +19,7 @@ use Rattle.tracker.specs.declared.Answered.{Answered}
 use Rattle.tracker.specs.declared.Reply.{Reply}
 use Rattle.tracker.specs.declared.Reply.the-variants.{Accepted}
 use Rattle.tracker.specs.Replies.{refused, answerOf, givenBack, leftBy}
-use Rattle.tracker.specs.Outcome.{Outcome, decided, enableOrder, disableOrder}
+use Rattle.outcome.specs.Outcome.{Outcome, decided, enableOrder, disableOrder}
 use Rattle.tracker.specs.Judged.{refuses}
 use Rattle.tracker.specs.Unjudged.{appendedTo, carrying, applyEnableOf, applyDisableOf}
 

@@ -23,13 +23,13 @@ use Rattle.flowtable.specs.FlowTable.{placeOf, removedAt}
 use Rattle.flowtable.specs.Laws.{appended, appended-flows, without-count, removed}
 use Rattle.propagation.specs.Exact.{passed-length, passed-beyond, passed-fits, exact, after-is, pairs-total}
 use Rattle.propagation.specs.Pass.{passesOf, passed, setsAfter, pairsAdded}
-use Rattle.tracker.specs.Outcome.{decided, stored, propagated, gainOf, changed, enabling, disabling, enableOrder, enableOf, disableOrder, disableOf, outcomeOf}
-use Rattle.tracker.specs.Refusals.{decided-number}
-use Rattle.tracker.specs.Propagation.{propagated-has, propagated-fits}
-use Rattle.tracker.specs.Table.{Enables}
-use Rattle.tracker.specs.Stays.{usable-count, propagated-length, propagated-keeps, flows-within, changed-flows, enable-usable}
-use Rattle.tracker.specs.Steps.{enable-accepted}
-use Rattle.tracker.specs.Effects.{gain-total, propagated-beyond}
+use Rattle.outcome.specs.Outcome.{decided, stored, propagated, gainOf, changed, enabling, disabling, enableOrder, enableOf, disableOrder, disableOf, outcomeOf}
+use Rattle.outcome.specs.Refusals.{decided-number}
+use Rattle.outcome.specs.Propagation.{propagated-has, propagated-fits}
+use Rattle.outcome.specs.Table.{Enables}
+use Rattle.outcome.specs.Stays.{usable-count, propagated-length, propagated-keeps, flows-within, changed-flows, enable-usable}
+use Rattle.outcome.specs.Steps.{enable-accepted}
+use Rattle.outcome.specs.Effects.{gain-total, propagated-beyond}
 use Rattle.tracker.specs.Unjudged.{appendedTo, carrying, applyEnableOf, applyDisableOf}
 
 -- PASSES AND THE CLOSURE

@@ -9,7 +9,7 @@ ghost use mathlib.Core.List.{List};
 ghost use Prim.Native.Nat.{ℕ};
 ghost use Rattle.state.specs.State.{storageOf, stateOf};
 ghost use Rattle.tracker.specs.Replies.{givenBack, leftBy};
-ghost use Rattle.tracker.specs.Outcome.{startOf, enableOf, disableOf};
+ghost use Rattle.outcome.specs.Outcome.{startOf, enableOf, disableOf};
 ghost use Rattle.tracker.specs.Unjudged.{applyEnableOf, applyDisableOf};
 
 // What a call answers: that it is accepted, with its gain, or the refusal (specs/Replies.antt has the paper's numbers).

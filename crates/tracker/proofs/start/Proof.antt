@@ -3,7 +3,7 @@ use mathlib.Core.Path.{_≡_}
 use lib.ListN.{length}
 use borrow.Author.Needs.{needs}
 use Rattle.state.specs.State.{stateOf}
-use Rattle.tracker.specs.Outcome.{noHeader}
+use Rattle.outcome.specs.Outcome.{noHeader}
 use Rattle.tracker.specs.Judged.{start-judged, start-done}
 use Rattle.tracker.specs.UnjudgedBranches.{left-refused}
 use Rattle.tracker.proofs.start.Statement.{statement}

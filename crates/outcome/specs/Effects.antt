@@ -16,11 +16,11 @@ use Rattle.state.specs.State.{Storage, State, setAt, flowsOf}
 use Rattle.state.specs.Layout.{Fit64, sets-fit, sets-length, sets-beyond, front-length, front-beyond, flows-length, flows-beyond}
 use Rattle.state.specs.IsValid.{IsSized, Usable}
 use Rattle.tagstore.specs.Store.{totalOf}
-use Rattle.tracker.specs.Outcome.{decided, noHeader, startOrder, started, startOf, propagated, gainOf, changed, enabling, disabling, enableOrder, enableOf, disableOrder, disableOf, Call, ask, outcomeOf, after}
-use Rattle.tracker.specs.Refusals.{start-cases, call-cases}
-use Rattle.tracker.specs.Propagation.{propagated-fits}
-use Rattle.tracker.specs.Stays.{usable-count, without-length, propagated-length}
-use Rattle.tracker.specs.Steps.{Sentence, enable-sentence, start-accepted, enable-accepted, disable-accepted, start-leaves, enable-leaves, disable-leaves}
+use Rattle.outcome.specs.Outcome.{decided, noHeader, startOrder, started, startOf, propagated, gainOf, changed, enabling, disabling, enableOrder, enableOf, disableOrder, disableOf, Call, ask, outcomeOf, after}
+use Rattle.outcome.specs.Refusals.{start-cases, call-cases}
+use Rattle.outcome.specs.Propagation.{propagated-fits}
+use Rattle.outcome.specs.Stays.{usable-count, without-length, propagated-length}
+use Rattle.outcome.specs.Steps.{Sentence, enable-sentence, start-accepted, enable-accepted, disable-accepted, start-leaves, enable-leaves, disable-leaves}
 
 -- two storages have the same lengths, and the same content past those that n containers use
 pub record SameBeyond (n : ℕ) (a b : Storage) : Type 0 where

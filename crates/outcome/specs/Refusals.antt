@@ -8,7 +8,7 @@ use native.Mathlib.Nat.{suc-ne-zero}
 use Rattle.refusal.specs.Order.{firstOf, NoneHolds, IsFirst, first-is, first-none, first-cases}
 use Rattle.model.specs.Model.{enable, disable}
 use Rattle.state.specs.State.{Storage, State}
-use Rattle.tracker.specs.Outcome.{decided, noHeader, startOrder, started, startOf, enableOf, disableOf, Call, ask, outcomeOf, orderOf}
+use Rattle.outcome.specs.Outcome.{decided, noHeader, startOrder, started, startOf, enableOf, disableOf, Call, ask, outcomeOf, orderOf}
 
 -- a number is answered exactly if it stands beside the first condition that holds
 first-number : (cs : List (Bool × ℕ)) (k : ℕ) → (firstOf cs 0 ≡ suc k) ↔ IsFirst cs (suc k)

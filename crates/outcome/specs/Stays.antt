@@ -21,9 +21,9 @@ use Rattle.tagset.specs.Laws.{single-has}
 use Rattle.state.specs.State.{Storage, State, setAt, flowsOf, withFlows}
 use Rattle.state.specs.Layout.{flows-count, set-written, sets-length, front-length, front-at, flows-length, flows-taken, flows-unused}
 use Rattle.state.specs.IsValid.{IsSized, Rising, unused-iff, ProperEnds, IsValid, Usable}
-use Rattle.tracker.specs.Outcome.{started, propagated, changed, enabling, disabling}
-use Rattle.tracker.specs.Table.{Enables}
-use Rattle.tracker.specs.Propagation.{propagated-has}
+use Rattle.outcome.specs.Outcome.{started, propagated, changed, enabling, disabling}
+use Rattle.outcome.specs.Table.{Enables}
+use Rattle.outcome.specs.Propagation.{propagated-has}
 
 -- LISTS OF FLOWS
 

@@ -16,8 +16,8 @@ use Rattle.model.specs.Standing.{enabled-number, number-enabled}
 use Rattle.state.specs.State.{Storage, State, badSize, flowsOf}
 use Rattle.state.specs.Valid.{validOf}
 use Rattle.state.specs.IsValid.{IsSized, sized, ProperEnds, IsValid, valid, Usable}
-use Rattle.tracker.specs.Outcome.{noHeader, startOrder, started, startOf, enableOrder, enabling, enableOf, disableOrder, disabling, disableOf}
-use Rattle.tracker.specs.Refusals.{decided-number}
+use Rattle.outcome.specs.Outcome.{noHeader, startOrder, started, startOf, enableOrder, enabling, enableOf, disableOrder, disabling, disableOf}
+use Rattle.outcome.specs.Refusals.{decided-number}
 
 -- 'Starting: 9'
 pub data StartAnswers (n : ℕ) (lent : Storage) : ℕ → Type 0 where

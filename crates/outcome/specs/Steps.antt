@@ -17,11 +17,11 @@ use Rattle.tagset.specs.Set.{has}
 use Rattle.state.specs.State.{Storage, State, setAt, flowsOf, noFlow}
 use Rattle.state.specs.Layout.{front-at}
 use Rattle.state.specs.IsValid.{IsSized, Usable}
-use Rattle.tracker.specs.Outcome.{noHeader, startOrder, started, startOf, propagated, changed, enabling, disabling, enableOrder, enableOf, disableOrder, disableOf, Call, ask, outcomeOf}
-use Rattle.tracker.specs.Refusals.{decided-done, call-cases}
-use Rattle.tracker.specs.Table.{Enables, StartAnswers, start-answers, EnableAnswers, enable-answers, DisableAnswers, disable-answers, bad-size, invalid-state, accepted}
-use Rattle.tracker.specs.Propagation.{propagated-has}
-use Rattle.tracker.specs.Stays.{changed-flows, started-has, start-usable, enable-usable, disable-usable, flows-within, settled}
+use Rattle.outcome.specs.Outcome.{noHeader, startOrder, started, startOf, propagated, changed, enabling, disabling, enableOrder, enableOf, disableOrder, disableOf, Call, ask, outcomeOf}
+use Rattle.outcome.specs.Refusals.{decided-done, call-cases}
+use Rattle.outcome.specs.Table.{Enables, StartAnswers, start-answers, EnableAnswers, enable-answers, DisableAnswers, disable-answers, bad-size, invalid-state, accepted}
+use Rattle.outcome.specs.Propagation.{propagated-has}
+use Rattle.outcome.specs.Stays.{changed-flows, started-has, start-usable, enable-usable, disable-usable, flows-within, settled}
 
 -- WHICH CALLS ARE ACCEPTED: the rows of the table with number 0
 

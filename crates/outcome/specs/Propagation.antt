@@ -15,7 +15,7 @@ use Rattle.tagset.specs.Below.{any-find, any-make}
 use Rattle.tagset.specs.Laws.{union-has, empty-has, empty-words, union-words}
 use Rattle.state.specs.State.{setAt}
 use Rattle.state.specs.Layout.{set-written, Fit64, set-fits, sets-fit}
-use Rattle.tracker.specs.Outcome.{unionOver, propagated}
+use Rattle.outcome.specs.Outcome.{unionOver, propagated}
 
 -- a tag is in the united sets exactly if it is in one of them
 pub union-over-has : (n : ℕ) (p : ℕ → Bool) (f : ℕ → TagSet) (t : ℕ) → has (unionOver n p f) t ≡ anyBelow n (λ a. p a && has (f a) t)

@@ -18,12 +18,12 @@ use Rattle.model.specs.Histories.{flows-empty, flows-next, MayEnable, enable-jo
 use Rattle.tagset.specs.Set.{has}
 use Rattle.state.specs.State.{Storage, State, setAt, flowsOf}
 use Rattle.state.specs.IsValid.{IsSized, Usable}
-use Rattle.tracker.specs.Outcome.{started, startOf, Call, ask, outcomeOf, eventsOf, after, configurationOf}
-use Rattle.tracker.specs.Refusals.{call-cases}
-use Rattle.tracker.specs.Table.{Enables}
-use Rattle.tracker.specs.Stays.{usable-count, started-has, start-usable, flows-within}
-use Rattle.tracker.specs.Steps.{start-accepted, enable-accepted, disable-accepted, start-leaves, event-leaves-usable, Sentence, enable-sentence, disable-sentence, enable-flows, disable-flows}
-use Rattle.tracker.specs.Effects.{event-containers}
+use Rattle.outcome.specs.Outcome.{started, startOf, Call, ask, outcomeOf, eventsOf, after, configurationOf}
+use Rattle.outcome.specs.Refusals.{call-cases}
+use Rattle.outcome.specs.Table.{Enables}
+use Rattle.outcome.specs.Stays.{usable-count, started-has, start-usable, flows-within}
+use Rattle.outcome.specs.Steps.{start-accepted, enable-accepted, disable-accepted, start-leaves, event-leaves-usable, Sentence, enable-sentence, disable-sentence, enable-flows, disable-flows}
+use Rattle.outcome.specs.Effects.{event-containers}
 
 -- the state is what the history makes of n containers
 pub record Follows (n : ℕ) (h : History) (s : State) : Type 0 where

@@ -1,0 +1,9 @@
+pub mod Outcome
+pub mod Bench
+pub mod Refusals
+pub mod Propagation
+pub mod Table
+pub mod Stays
+pub mod Steps
+pub mod Effects
+pub mod Follows
