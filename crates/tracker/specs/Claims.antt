@@ -1,11 +1,5 @@
 -- THE CLAIMS: what is true of the definitions that the running calls equal, each with the demand that it answers; then of the calls, one by one.
--- The definitions: model/specs/Model.antt (containers, flows, executions; no word of a tracker) and Reach.antt; state/specs/State.antt and Valid.antt;
--- Outcome.antt; with tagset/specs/Set.antt and refusal/specs/Order.antt (`firstOf`, IsFirst). For the running calls: Replies.antt (what the contracts
--- cite), Unjudged.antt, propagation/specs/Pass.antt.
--- Words of the claims: IsSized, ProperEnds, Rising, IsValid, Usable (state/specs/IsValid.antt); Fit64 (state/specs/Layout.antt); StartAnswers, Enables,
--- EnableAnswers, DisableAnswers (Table.antt); Sentence, IsStarted, FlowsChanged (Steps.antt); SameBeyond (Effects.antt); totalOf (tagstore/specs/Store.antt); Follows (Follows.antt); StartDoes,
--- EnableDoes, DisableDoes, Run (Running.antt);
--- Standing, Accepted, Occurs, MayEnable, Within (model/specs/Standing.antt, Histories.antt, Closure.antt). Assumes nothing.
+-- Definitions, words and laws are cited where they stand; the index of both is below the imports. Assumes nothing.
 use mathlib.Core.Path.{_≡_, refl, sym, _∙_, subst}
 use mathlib.Core.Bool.{true, false}
 use mathlib.Core.List.{List, [], _∷_, _++_}
@@ -44,6 +38,14 @@ use Rattle.outcome.specs.Stays.{settled}
 use Rattle.outcome.specs.Steps.{start-makes-usable, event-leaves-usable, call-keeps, usable-answers, Sentence, propagated-sentence, enable-sentence, disable-sentence, IsStarted, start-is-started, FlowsChanged, enable-flows, disable-flows}
 use Rattle.outcome.specs.Effects.{start-fits, call-fits, start-gains-nothing, SameBeyond, start-beyond, call-beyond, list-beyond, disable-tags, gain-counted, enable-gain, disable-gain}
 use Rattle.outcome.specs.Follows.{Follows, configuration-has, accepted-joins, calls-follow, begun-follows}
+
+-- THE DEFINITIONS: model/specs/Model.antt (containers, flows, executions; no word of a tracker) and Reach.antt; state/specs/State.antt and Valid.antt;
+-- outcome/specs/Outcome.antt; with tagset/specs/Set.antt and refusal/specs/Order.antt (`firstOf`, IsFirst). For the running calls: Replies.antt (what the
+-- contracts cite), Unjudged.antt, propagation/specs/Pass.antt.
+-- WORDS OF THE CLAIMS: IsSized, ProperEnds, Rising, IsValid, Usable (state/specs/IsValid.antt); Fit64 (state/specs/Layout.antt); totalOf
+-- (tagstore/specs/Store.antt); StartAnswers, Enables, EnableAnswers, DisableAnswers (outcome/specs/Table.antt); Sentence, IsStarted, FlowsChanged
+-- (Steps.antt); SameBeyond (Effects.antt); Follows (Follows.antt); StartDoes, EnableDoes, DisableDoes, Run (Running.antt); Standing, Accepted, Occurs,
+-- MayEnable, Within (model/specs/Standing.antt, Histories.antt, Closure.antt).
 
 -- DEMAND 1: the work, or the refusal that comes first in the paper's order; a refused event changes nothing
 
