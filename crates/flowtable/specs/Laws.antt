@@ -47,7 +47,7 @@ unfolding placeOf
 place-end number k fs h = ap (placeOf number) (drop-of-length-le fs h)
 
 -- a place is below the end exactly where a flow has the number
-pub place-enabled : (k : ℕ) (fs : List Flow) → isEnabled k fs ≡ ltb (placeOf k fs) (length fs)
+place-enabled : (k : ℕ) (fs : List Flow) → isEnabled k fs ≡ ltb (placeOf k fs) (length fs)
 unfolding placeOf isEnabled
 place-enabled k [] = refl
 place-enabled k (f ∷ fs) =
@@ -127,7 +127,7 @@ without-none k j (f ∷ fs) h (l, r) =
     rw n (ap (λ (gs : List Flow). f ∷ gs) (without-none k (f .number) fs (omega arith) r))
 
 -- the one flow of number k goes
-pub without-one : (k j : ℕ) (fs : List Flow) → Rising j fs → isEnabled k fs ≡ true → without k fs ≡ take (placeOf k fs) fs ++ drop (suc (placeOf k fs)) fs
+without-one : (k j : ℕ) (fs : List Flow) → Rising j fs → isEnabled k fs ≡ true → without k fs ≡ take (placeOf k fs) fs ++ drop (suc (placeOf k fs)) fs
 unfolding without keep Rising placeOf isEnabled
 without-one k j [] r e = absurd (false≢true e)
 without-one k j (f ∷ fs) (l, r) e =

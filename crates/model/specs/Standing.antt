@@ -106,7 +106,7 @@ of-edge (g ∷ fs) {f} {a} {b} i j =
     ⊎-elim (λ q. Memᴰ·append-left (edgesOf fs) (subst (λ (x : Flow). (a, b) ∈ edges x) q j)) (λ m. Memᴰ·append-right (edges g) (of-edge fs m j))
     (List·Memᴰ·cases-cons i)
 
--- WHAT ONE FLOW CARRIES: the only lemmas on the shape of `edges`
+-- WHAT ONE FLOW CARRIES: the only lemmas of the model on the shape of `edges`
 
 -- a way of a flow goes from its one end to its other
 pub edge-ends : (f : Flow) {a b : ℕ} → (a, b) ∈ edges f → (a ≡ f .from) × (b ≡ f .to)

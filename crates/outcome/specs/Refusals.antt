@@ -24,8 +24,13 @@ unfolding decided
 decided-number zero s gain s' = refl
 decided-number (suc k) s gain s' = refl
 
+-- so a refusal is answered exactly if it is the first of the order
+pub decided-refusal : (order : List (Bool × ℕ)) (s : State) (gain : ℕ) (s' : State) (k : ℕ)
+    → (decided (firstOf order 0) s gain s' .answer .refusal ≡ suc k) ↔ IsFirst order (suc k)
+decided-refusal order s gain s' k = rw (decided-number (firstOf order 0) s gain s') (first-number order k)
+
 -- where that is not 0, the state is the one before and nothing is gained
-decided-refused : (r : ℕ) (s : State) (gain : ℕ) (s' : State) (k : ℕ) → decided r s gain s' .answer .refusal ≡ suc k
+pub decided-refused : (r : ℕ) (s : State) (gain : ℕ) (s' : State) (k : ℕ) → decided r s gain s' .answer .refusal ≡ suc k
     → (decided r s gain s' .state ≡ s) × (decided r s gain s' .answer .gain ≡ 0)
 unfolding decided
 decided-refused zero s gain s' k e = absurd (suc-ne-zero k (sym e))
@@ -47,13 +52,10 @@ outcome-decided s (ask (disable k)) = (_, _, refl)
 -- REFUSAL k is answered exactly if its condition holds and none before it in the order does
 pub start-refusal : (n : ℕ) (lent : Storage) (k : ℕ) → (startOf n lent .answer .refusal ≡ suc k) ↔ IsFirst (startOrder n lent) (suc k)
 unfolding startOf
-start-refusal n lent k =
-    rw (decided-number (firstOf (startOrder n lent) 0) (record { header = noHeader; storage = lent }) 0 (started n lent)) (first-number (startOrder n lent) k)
+start-refusal n lent k = decided-refusal (startOrder n lent) (record { header = noHeader; storage = lent }) 0 (started n lent) k
 
 pub call-refusal : (s : State) (c : Call) (k : ℕ) → (outcomeOf s c .answer .refusal ≡ suc k) ↔ IsFirst (orderOf s c) (suc k)
-call-refusal s c k =
-    let w = outcome-decided s c in
-    rw (w .2, decided-number (firstOf (orderOf s c) 0) s (w .0) (w .1)) (first-number (orderOf s c) k)
+call-refusal s c k = let w = outcome-decided s c in rw (w .2) (decided-refusal (orderOf s c) s (w .0) (w .1) k)
 
 -- A REFUSED CALL gains 0 and leaves header and lists as they were; a refused start answers a header of zeros
 pub start-refused : (n : ℕ) (lent : Storage) (k : ℕ) → startOf n lent .answer .refusal ≡ suc k

@@ -1,5 +1,4 @@
--- Passes computed, word by word: within one each edge reads the sets as the pass found them. What they must give was worked out by hand. How many there
--- are is fixed by the laws `passes-some`, `passes-add` and `passes-last` (Exact.antt). Assumes nothing.
+-- Passes computed, word by word: within one each edge reads the sets as the pass found them. How many there are is fixed by the laws `passes-some`, `passes-add` and `passes-last` (Exact.antt). Assumes nothing.
 use mathlib.Core.Path.{_≡_, refl}
 use mathlib.Core.List.{List, [], _∷_, map}
 use Prim.Native.Nat.{ℕ, zero, suc}

@@ -181,7 +181,7 @@ module _ (n : ℕ) (es : List (ℕ × ℕ)) (ws : List ℕ) (h : 4 * n ≤ lengt
       (λ y. ⊎-elim inl (λ g. inr (g .0, g .1, g .3, g .4)) (r .0 y), ⊎-elim (λ x. r .1 (inl x)) (λ g. r .1 (inr (g .0, g .1, l, g .2, g .3))))
 
   -- a container keeps its tags
-  pub passed-keeps : (m c t : ℕ) → has (setAt ws c) t ≡ true → has (setAt (passed m n es ws) c) t ≡ true
+  passed-keeps : (m c t : ℕ) → has (setAt ws c) t ≡ true → has (setAt (passed m n es ws) c) t ≡ true
   unfolding passed pass
   passed-keeps zero c t y = y
   passed-keeps (suc m) c t y =
@@ -354,7 +354,7 @@ module _ (n : ℕ) (es : List (ℕ × ℕ)) (ws : List ℕ) (h : 4 * n ≤ lengt
 -- ALONG FLOWS
 
 -- of at most 256 sets that the words have whole none is left out
-pub setsIn-all : (n : ℕ) (ws : List ℕ) → n ≤ 256 → 4 * n ≤ length ws → setsIn n ws ≡ n
+setsIn-all : (n : ℕ) (ws : List ℕ) → n ≤ 256 → 4 * n ≤ length ws → setsIn n ws ≡ n
 unfolding setsIn
 setsIn-all n ws l h = omega (arith, l, h)
 

@@ -1,6 +1,5 @@
 // Tags carried along the enabled flows (document 01: the spread), pass by pass, up to the first pass that adds none.
 use model::Flow;
-use tagset::TagSet;
 ghost use mathlib.Core.Path.{_≡_};
 ghost use mathlib.Core.List.{_++_};
 ghost use Prim.Native.Nat.{_*_, _≤_};

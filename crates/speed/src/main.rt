@@ -18,7 +18,7 @@ fn main() {
     line(ended.header.greatest);
 }
 
-// Enables flows 1 to 511, which make two rings of all containers.
+// Enables flows 1 to 511: a ring of all containers, and the same again but for its last flow.
 fn fill(mut now: Answered, tags: &mut [u64], policies: &[u64], counts: &[u8]) -> Answered {
     let mut k: u32 = 1;
     while k < 512 {

@@ -8,7 +8,7 @@ use mathlib.Mathlib.Logic.Relation.{ReflTransGenᴰ}
 use Prim.Native.Nat.{ℕ, suc, _+_, _*_, _/_, _%_, _^_, _≤_, _<_}
 use native.Mathlib.Omega.{arith}
 use lib.Dec.{eqb}
-use lib.ListN.{length, getD}
+use lib.ListN.{length, getD, drop}
 use Rattle.truth.specs.Truth.{iff}
 use Rattle.refusal.specs.Order.{IsFirst}
 use Rattle.model.specs.declared.Flow.{Flow}
@@ -24,14 +24,15 @@ use Rattle.state.specs.Valid.{validOf}
 use Rattle.state.specs.Layout.{Fit64, set-bit, flows-first, flows-count}
 use Rattle.state.specs.IsValid.{IsSized, sized, IsValid, valid, Usable}
 use Rattle.tagstore.specs.Store.{totalOf}
-use Rattle.propagation.specs.Pass.{pass, adds, passed, passesOf, setsAfter, pairsAdded}
-use Rattle.propagation.specs.Exact.{pass-has, adds-iff, passes-some, passes-add, passes-last}
+use Rattle.propagation.specs.Pass.{pass, adds, passed, passesOf, passCount, setsAfter, pairsAdded}
+use Rattle.propagation.specs.Exact.{pass-has, adds-iff, count-is, passes-some, passes-add, passes-last}
+use Rattle.tracker.specs.declared.Reply.{Reply}
 use Rattle.tracker.specs.declared.Answered.{Answered}
-use Rattle.tracker.specs.Replies.{answerOf, leftBy}
+use Rattle.tracker.specs.Replies.{answerOf, answer-injective, leftBy}
 use Rattle.tracker.specs.Unjudged.{applyEnableOf, applyDisableOf}
-use Rattle.tracker.specs.UnjudgedLaws.{passes-propagate, passes-gain, apply-enable, apply-disable}
-use Rattle.tracker.specs.Running.{StartDoes, start-does, EnableDoes, enable-does, DisableDoes, disable-does, Run, run-is, run-of}
-use Rattle.outcome.specs.Outcome.{Outcome, startOrder, startOf, propagated, gainOf, enableOf, disableOf, Call, ask, orderOf, outcomeOf, eventsOf, after, configurationOf}
+use Rattle.tracker.specs.UnjudgedLaws.{passes-propagate, passes-gain, apply-enable-refusal, apply-enable-refused, apply-disable-refusal, apply-disable-refused, apply-enable, apply-disable}
+use Rattle.tracker.specs.Running.{StartDoes, start-does, EnableDoes, enable-does, DisableDoes, disable-does, Called, called-is, called-of}
+use Rattle.outcome.specs.Outcome.{Outcome, startOrder, enableOrder, disableOrder, startOf, propagated, gainOf, enableOf, disableOf, Call, ask, orderOf, outcomeOf, eventsOf, after, configurationOf}
 use Rattle.outcome.specs.Refusals.{start-refusal, start-refused, call-refusal, call-refused}
 use Rattle.outcome.specs.Table.{StartAnswers, start-answers, EnableAnswers, enable-answers, DisableAnswers, disable-answers}
 use Rattle.outcome.specs.Stays.{settled}
@@ -41,10 +42,10 @@ use Rattle.outcome.specs.Follows.{Follows, configuration-has, accepted-joins, c
 
 -- THE DEFINITIONS: model/specs/Model.antt (containers, flows, executions; no word of a tracker) and Reach.antt; state/specs/State.antt and Valid.antt;
 -- outcome/specs/Outcome.antt; with tagset/specs/Set.antt and refusal/specs/Order.antt (`firstOf`, IsFirst). For the running calls: Replies.antt (what the
--- contracts cite), Unjudged.antt, propagation/specs/Pass.antt.
+-- contracts cite), Unjudged.antt, flowtable/specs/FlowTable.antt, propagation/specs/Pass.antt, tagstore/specs/Store.antt.
 -- WORDS OF THE CLAIMS: IsSized, ProperEnds, Rising, IsValid, Usable (state/specs/IsValid.antt); Fit64 (state/specs/Layout.antt); totalOf
 -- (tagstore/specs/Store.antt); StartAnswers, Enables, EnableAnswers, DisableAnswers (outcome/specs/Table.antt); Sentence, IsStarted, FlowsChanged
--- (Steps.antt); SameBeyond (Effects.antt); Follows (Follows.antt); StartDoes, EnableDoes, DisableDoes, Run (Running.antt); Standing, Accepted, Occurs,
+-- (Steps.antt); SameBeyond (Effects.antt); Follows (Follows.antt); StartDoes, EventDoes, EnableDoes, DisableDoes, Called (Running.antt); Standing, Accepted, Occurs,
 -- MayEnable, Within (model/specs/Standing.antt, Histories.antt, Closure.antt).
 
 -- DEMAND 1: the work, or the refusal that comes first in the paper's order; a refused event changes nothing
@@ -232,6 +233,10 @@ module _ (n : ℕ) (lent : Storage) (begun : startOf n lent .answer .refusal ≡
 -- outcome of its definition, for every number and every content and length of storage. It is the hypothesis here; the reader compares it with the line
 -- `ensures` there. So what is claimed above of the definitions is true of the calls, one by one:
 
+-- the numbers that a contract gives determine the reply
+pub the-numbers-tell-replies-apart : (q r : Reply) → answerOf q ≡ answerOf r → q ≡ r
+the-numbers-tell-replies-apart = answer-injective
+
 -- `start`: StartDoes gathers what is claimed of it (demand 1)
 pub what-start-does : (n : ℕ) (lent : Storage) (r : Answered) (tags policies counts : List ℕ) → leftBy r tags policies counts ≡ startOf n lent
     → StartDoes n lent (leftBy r tags policies counts)
@@ -249,7 +254,23 @@ pub what-disable-does : (s : State) (k : ℕ) (r : Answered)
     → DisableDoes s k (leftBy r (s .storage .tags) (s .storage .policies) (s .storage .policyCounts))
 what-disable-does s k r e = subst (DisableDoes s k) (sym e) (disable-does s k)
 
--- `apply_enable` and `apply_disable`, which judge no state: on a usable one (for the enable of words of 64 bits, as lent words are) they come to the same
+-- `apply_enable` and `apply_disable`, which judge no state. On every state they answer the first refusal that stands after 9 and 12 in the event's order,
+-- and a refused event changes nothing
+pub apply-enable-answers-the-first : (s : State) (f : Flow) (k : ℕ) → (applyEnableOf s f .answer .refusal ≡ suc k) ↔ IsFirst (drop 2 (enableOrder s f)) (suc k)
+apply-enable-answers-the-first = apply-enable-refusal
+
+pub refused-apply-enable-changes-nothing : (s : State) (f : Flow) (k : ℕ) → applyEnableOf s f .answer .refusal ≡ suc k
+    → (applyEnableOf s f .state ≡ s) × (applyEnableOf s f .answer .gain ≡ 0)
+refused-apply-enable-changes-nothing = apply-enable-refused
+
+pub apply-disable-answers-the-first : (s : State) (j k : ℕ) → (applyDisableOf s j .answer .refusal ≡ suc k) ↔ IsFirst (drop 2 (disableOrder s j)) (suc k)
+apply-disable-answers-the-first = apply-disable-refusal
+
+pub refused-apply-disable-changes-nothing : (s : State) (j k : ℕ) → applyDisableOf s j .answer .refusal ≡ suc k
+    → (applyDisableOf s j .state ≡ s) × (applyDisableOf s j .answer .gain ≡ 0)
+refused-apply-disable-changes-nothing = apply-disable-refused
+
+-- on a usable state (for the enable of words of 64 bits, as lent words are) they come to the same
 pub apply-enable-is-enable : (s : State) → Usable s → (f : Flow) → Fit64 (s .storage .tags) → applyEnableOf s f ≡ enableOf s f
 apply-enable-is-enable = apply-enable
 
@@ -271,6 +292,10 @@ pub a-pass-reads-the-sets-found : (n : ℕ) (es : List (ℕ × ℕ)) (ws : List 
     → (has (setAt (pass n es ws) c) t ≡ true)
     ↔ ((has (setAt ws c) t ≡ true) ⊎ ((a : ℕ) × (a < n) × ((a, c) ∈ es) × (has (setAt ws a) t ≡ true)))
 a-pass-reads-the-sets-found = pass-has
+
+-- the number that `propagate` answers, for as many sets as the words have
+pub the-number-of-passes : (n : ℕ) (fs : List Flow) (ws : List ℕ) → n ≤ 256 → 4 * n ≤ length ws → passCount n fs ws ≡ passesOf n (edgesOf fs) ws
+the-number-of-passes = count-is
 
 -- the passes stop at the first that adds no tag: there is one at least, each before the last adds a tag, and the last adds none
 pub a-pass-adds-exactly-if : (n : ℕ) (es : List (ℕ × ℕ)) (ws : List ℕ) → 4 * n ≤ length ws
@@ -301,46 +326,46 @@ pub pairs-counted-are-the-gain : (n : ℕ) (fs : List Flow) (ws : List ℕ) → 
     → pairsAdded n fs ws ≡ gainOf n ws (propagated n fs ws)
 pairs-counted-are-the-gain = passes-gain
 
--- CALLS THAT RAN one after the other are known by their contracts alone; every list of calls has such a run, from every start that is accepted
-pub every-list-has-a-run : (n : ℕ) (lent : Storage) → startOf n lent .answer .refusal ≡ 0 → (calls : List Call) → (s : State) × Run n lent calls s
-every-list-has-a-run = run-of
+-- CALLS ONE AFTER THE OTHER (`Called`) are known by their contracts alone. These can be met for every list of calls, from every start that is accepted
+pub every-list-can-be-called : (n : ℕ) (lent : Storage) → startOf n lent .answer .refusal ≡ 0 → (calls : List Call) → (s : State) × Called n lent calls s
+every-list-can-be-called = called-of
 
--- DEMANDS 2 AND 3 of such a run: after its calls the state is `s`
-module _ (n : ℕ) (lent : Storage) (calls : List Call) (s : State) (ran : Run n lent calls s) where
+-- DEMANDS 2 AND 3 of calls made one after the other, which left the state `s`
+module _ (n : ℕ) (lent : Storage) (calls : List Call) (s : State) (made : Called n lent calls s) where
   -- it is the tracker of the claims on lists of calls
-  same-state : tracker n lent (run-is ran .0) calls ≡ s
-  same-state = sym (run-is ran .1)
+  same-state : tracker n lent (called-is made .0) calls ≡ s
+  same-state = sym (called-is made .1)
 
-  pub ran-follows : Follows n (accepted n (eventsOf calls)) s
-  ran-follows = rw (sym same-state) (tracker-follows n lent (run-is ran .0) calls)
+  pub called-follows : Follows n (accepted n (eventsOf calls)) s
+  called-follows = rw (sym same-state) (tracker-follows n lent (called-is made .0) calls)
 
-  pub ran-writes-nothing-beyond : SameBeyond n (s .storage) lent
-  ran-writes-nothing-beyond = rw (sym same-state) (tracker-writes-nothing-beyond n lent (run-is ran .0) calls)
+  pub called-writes-nothing-beyond : SameBeyond n (s .storage) lent
+  called-writes-nothing-beyond = rw (sym same-state) (tracker-writes-nothing-beyond n lent (called-is made .0) calls)
 
   -- the next call is refused neither for its storage nor for its state
-  pub ran-answers-no-9-or-12 : (e : Event) (r : Answered) (tags : List ℕ)
+  pub called-answers-no-9-or-12 : (e : Event) (r : Answered) (tags : List ℕ)
       → leftBy r tags (s .storage .policies) (s .storage .policyCounts) ≡ outcomeOf s (ask e)
       → (answerOf (r .reply) .refusal ≢ 9) × (answerOf (r .reply) .refusal ≢ 12)
-  ran-answers-no-9-or-12 e r tags q =
-      subst (λ (o : Outcome). (o .answer .refusal ≢ 9) × (o .answer .refusal ≢ 12)) (sym q) (usable-answers s e (ran-follows .usable))
+  called-answers-no-9-or-12 e r tags q =
+      subst (λ (o : Outcome). (o .answer .refusal ≢ 9) × (o .answer .refusal ≢ 12)) (sym q) (usable-answers s e (called-follows .usable))
 
-  pub ran-sets-are-flows : (c t : ℕ) → c < n → (has (setAt (s .storage .tags) c) t ≡ true) ↔ Flows n (accepted n (eventsOf calls)) t c
-  ran-sets-are-flows = rw (sym same-state) (sets-are-flows n lent (run-is ran .0) calls)
+  pub called-sets-are-flows : (c t : ℕ) → c < n → (has (setAt (s .storage .tags) c) t ≡ true) ↔ Flows n (accepted n (eventsOf calls)) t c
+  called-sets-are-flows = rw (sym same-state) (sets-are-flows n lent (called-is made .0) calls)
 
   -- the next call that runs, whatever its event, is accepted exactly if the event joins
-  pub ran-accepted-exactly-if-it-joins : (e : Event) (r : Answered) (tags : List ℕ)
+  pub called-accepted-exactly-if-it-joins : (e : Event) (r : Answered) (tags : List ℕ)
       → leftBy r tags (s .storage .policies) (s .storage .policyCounts) ≡ outcomeOf s (ask e)
       → (answerOf (r .reply) .refusal ≡ 0) ↔ (joins n (accepted n (eventsOf calls)) e ≡ true)
-  ran-accepted-exactly-if-it-joins e r tags q =
+  called-accepted-exactly-if-it-joins e r tags q =
       subst (λ (o : Outcome). (o .answer .refusal ≡ 0) ↔ (joins n (accepted n (eventsOf calls)) e ≡ true)) (sym q)
       (subst (λ (s : State). (outcomeOf s (ask e) .answer .refusal ≡ 0) ↔ (joins n (accepted n (eventsOf calls)) e ≡ true)) same-state
-      (accepted-exactly-if-it-joins n lent (run-is ran .0) calls e))
+      (accepted-exactly-if-it-joins n lent (called-is made .0) calls e))
 
-  pub ran-demand-3 :
+  pub called-demand-3 :
       ((x : Execution (accepted n (eventsOf calls))) → (configuration n x ≡ configurationOf s)
       ↔ ((y : Execution (accepted n (eventsOf calls))) (c t : ℕ) → configuration n y c t ≡ true → configuration n x c t ≡ true))
       × ((x : Execution (accepted n (eventsOf calls))) × (configuration n x ≡ configurationOf s))
-  ran-demand-3 = rw (sym same-state) (demand-3 n lent (run-is ran .0) calls)
+  called-demand-3 = rw (sym same-state) (demand-3 n lent (called-is made .0) calls)
 
 -- THE MODEL, which mentions no tracker, is the papers' (what demands 2 and 3 rest on)
 

@@ -1,6 +1,9 @@
 -- What a call answers, in the paper's numbers, and the outcome that its answer and the lent lists make up. Assumes nothing.
-use mathlib.Core.List.{List}
+use mathlib.Core.Path.{_≡_, refl, sym, ap, _∙_}
+use mathlib.Core.List.{List, [], _∷_}
 use Prim.Native.Nat.{ℕ}
+use lib.Dec.{eqb}
+use Rattle.refusal.specs.Order.{firstOf}
 use Rattle.model.specs.declared.Flow.{Flow}
 use Rattle.state.specs.declared.Header.{Header}
 use Rattle.state.specs.State.{stateOf}
@@ -31,3 +34,27 @@ givenBack reply header flows = record { reply = reply; header = header; flows = 
 -- the outcome of a call that gave back r and left these words of tag sets, words of policy sets and counts
 abbrev pub leftBy : Answered → List ℕ → List ℕ → List ℕ → Outcome
 leftBy r tags policies counts = record { answer = answerOf (r .reply); state = stateOf (r .header) tags policies counts (r .flows) }
+
+-- the numbers tell the replies apart, so a contract that gives them determines the reply
+replyOf : Answer → Reply
+replyOf a =
+    firstOf
+    ((eqb (a .refusal) 0, Accepted (a .gain))
+    ∷ (eqb (a .refusal) 4, NoSuchContainer)
+    ∷ (eqb (a .refusal) 5, SelfFlow)
+    ∷ (eqb (a .refusal) 6, StaleNumber) ∷ (eqb (a .refusal) 7, TableFull) ∷ (eqb (a .refusal) 8, NotEnabled) ∷ (eqb (a .refusal) 9, BadSize) ∷ [])
+    InvalidState
+
+reply-back : (r : Reply) → replyOf (answerOf r) ≡ r
+unfolding replyOf
+reply-back (Accepted gain) = refl
+reply-back NoSuchContainer = refl
+reply-back SelfFlow = refl
+reply-back StaleNumber = refl
+reply-back TableFull = refl
+reply-back NotEnabled = refl
+reply-back BadSize = refl
+reply-back InvalidState = refl
+
+pub answer-injective : (q r : Reply) → answerOf q ≡ answerOf r → q ≡ r
+answer-injective q r e = sym (reply-back q) ∙ ap replyOf e ∙ reply-back r

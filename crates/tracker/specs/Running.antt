@@ -1,24 +1,25 @@
 -- The running calls. A call's contract (src/lib.rt) says that what it gives back and leaves makes up the outcome of its definition; so all that is
--- claimed of the outcome is true of the call. Gathered here for each call, and for calls that ran one after the other. Assumes nothing.
+-- claimed of the outcome is true of the call. Gathered here for each call, and for calls one after the other. Assumes nothing.
 use mathlib.Core.Path.{_≡_, refl, sym, ap, _∙_, subst}
 use mathlib.Core.List.{List, [], _∷_, _++_, append-assoc, append-nil}
 use mathlib.Core.Logic.{_↔_, _≢_}
-use Prim.Native.Nat.{ℕ, zero, suc}
+use Prim.Native.Nat.{ℕ, zero, suc, _+_}
 use Rattle.model.specs.declared.Flow.{Flow}
 use Rattle.model.specs.Model.{Event, enable, disable, without}
 use Rattle.state.specs.State.{Storage, State, stateOf, flowsOf}
 use Rattle.state.specs.Layout.{Fit64}
-use Rattle.state.specs.IsValid.{Usable}
+use Rattle.state.specs.IsValid.{IsValid, Usable}
 use native.Mathlib.Omega.{arith}
 use Rattle.tracker.specs.declared.Answered.{Answered}
 use Rattle.tracker.specs.declared.Reply.{Reply}
 use Rattle.tracker.specs.declared.Reply.the-variants.{Accepted, NoSuchContainer, SelfFlow, StaleNumber, TableFull, NotEnabled, BadSize, InvalidState}
+use Rattle.tagstore.specs.Store.{totalOf}
 use Rattle.tracker.specs.Replies.{answerOf, givenBack, leftBy}
 use Rattle.outcome.specs.Outcome.{Outcome, noHeader, startOf, gainOf, enableOf, disableOf, Call, ask, outcomeOf, after}
 use Rattle.outcome.specs.Refusals.{start-refused, call-refused, call-cases}
 use Rattle.outcome.specs.Table.{StartAnswers, start-answers, EnableAnswers, enable-answers, DisableAnswers, disable-answers, bad-size, invalid-state, no-such-from, no-such-to, self-flow, stale-number, table-full, not-enabled, accepted}
-use Rattle.outcome.specs.Steps.{start-makes-usable, event-leaves-usable, Sentence, enable-sentence, disable-sentence, IsStarted, start-is-started, FlowsChanged, enable-flows, disable-flows}
-use Rattle.outcome.specs.Effects.{SameBeyond, start-beyond, call-beyond, start-gains-nothing, gain-counted, start-fits, call-fits}
+use Rattle.outcome.specs.Steps.{start-makes-usable, event-leaves-usable, call-keeps, Sentence, enable-sentence, disable-sentence, IsStarted, start-is-started, FlowsChanged, enable-flows, disable-flows}
+use Rattle.outcome.specs.Effects.{SameBeyond, disable-tags, enable-gain, disable-gain, start-beyond, call-beyond, start-gains-nothing, gain-counted, start-fits, call-fits}
 
 -- START: what is true of its outcome
 pub record StartDoes (n : ℕ) (lent : Storage) (o : Outcome) : Type 0 where
@@ -55,15 +56,20 @@ pub record EventDoes (s : State) (Answers : ℕ → Type 0) (fs : List Flow) (gr
   -- demand 2: each set is the one that document 01's sentence gives, and the gain is counted from the sets
   pub sentence : o .answer .refusal ≡ 0 → Sentence s (o .state)
   pub gain : o .answer .gain ≡ gainOf (s .header .containers) (s .storage .tags) (o .state .storage .tags)
+  pub grows-by-the-gain : totalOf (s .header .containers) (s .storage .tags) + o .answer .gain ≡ totalOf (s .header .containers) (o .state .storage .tags)
   -- what else an accepted event leaves
   pub flows : o .answer .refusal ≡ 0 → FlowsChanged fs greatest s (o .state)
   pub usable : o .answer .refusal ≡ 0 → Usable (o .state)
+  pub keeps-valid : IsValid s → IsValid (o .state)
 
 abbrev pub EnableDoes : State → Flow → Outcome → Type 0
 EnableDoes s f = EventDoes s (EnableAnswers s f) (flowsOf s ++ (f ∷ [])) (f .number)
 
-abbrev pub DisableDoes : State → ℕ → Outcome → Type 0
-DisableDoes s k = EventDoes s (DisableAnswers s k) (without k (flowsOf s)) (s .header .greatest)
+-- 'a closing gains 0', and 'it takes no tag away': no set changes
+pub record DisableDoes (s : State) (k : ℕ) (o : Outcome) : Type 0 where
+  pub event : EventDoes s (DisableAnswers s k) (without k (flowsOf s)) (s .header .greatest) o
+  pub gains-nothing : o .answer .gain ≡ 0
+  pub same-sets : o .state .storage .tags ≡ s .storage .tags
 
 pub enable-does : (s : State) (f : Flow) → EnableDoes s f (enableOf s f)
 unfolding outcomeOf
@@ -75,32 +81,41 @@ enable-does s f =
       keeps-64-bits = call-fits s (ask (enable f));
       sentence = enable-sentence s f;
       gain = gain-counted s (ask (enable f));
+      grows-by-the-gain = enable-gain s f;
       flows = enable-flows s f;
       usable = event-leaves-usable s (enable f);
+      keeps-valid = call-keeps IsValid s (ask (enable f)) (λ s u. u .valid);
     }
 
 pub disable-does : (s : State) (k : ℕ) → DisableDoes s k (disableOf s k)
 unfolding outcomeOf
 disable-does s k =
     record {
-      by-the-table = disable-answers s k;
-      refused = call-refused s (ask (disable k));
-      nothing-beyond = call-beyond s (ask (disable k));
-      keeps-64-bits = call-fits s (ask (disable k));
-      sentence = disable-sentence s k;
-      gain = gain-counted s (ask (disable k));
-      flows = disable-flows s k;
-      usable = event-leaves-usable s (disable k);
+      event =
+          record {
+            by-the-table = disable-answers s k;
+            refused = call-refused s (ask (disable k));
+            nothing-beyond = call-beyond s (ask (disable k));
+            keeps-64-bits = call-fits s (ask (disable k));
+            sentence = disable-sentence s k;
+            gain = gain-counted s (ask (disable k));
+            grows-by-the-gain = rw (disable-tags s k) (omega (arith, disable-gain s k));
+            flows = disable-flows s k;
+            usable = event-leaves-usable s (disable k);
+            keeps-valid = call-keeps IsValid s (ask (disable k)) (λ s u. u .valid);
+          };
+      gains-nothing = disable-gain s k;
+      same-sets = disable-tags s k;
     }
 
--- CALLS THAT RAN one after the other: a start that was accepted, then enables and disables, each on the header that the call before gave back and the
+-- CALLS ONE AFTER THE OTHER: a start that was accepted, then enables and disables, each on the header that the call before gave back and the
 -- lists that it left, refused or not. What is known of each call is its contract's equation alone
-pub data Run (n : ℕ) (lent : Storage) : List Call → State → Type 0 where
+pub data Called (n : ℕ) (lent : Storage) : List Call → State → Type 0 where
   begun : (r : Answered) (tags policies counts : List ℕ) → leftBy r tags policies counts ≡ startOf n lent → answerOf (r .reply) .refusal ≡ 0
-      → Run n lent [] (leftBy r tags policies counts .state)
-  called : {cs : List Call} {s : State} → Run n lent cs s → (c : Call) (r : Answered) (tags : List ℕ)
+      → Called n lent [] (leftBy r tags policies counts .state)
+  called : {cs : List Call} {s : State} → Called n lent cs s → (c : Call) (r : Answered) (tags : List ℕ)
       → leftBy r tags (s .storage .policies) (s .storage .policyCounts) ≡ outcomeOf s c
-      → Run n lent (cs ++ (c ∷ [])) (leftBy r tags (s .storage .policies) (s .storage .policyCounts) .state)
+      → Called n lent (cs ++ (c ∷ [])) (leftBy r tags (s .storage .policies) (s .storage .policyCounts) .state)
 
 -- one call more at the end of a list
 after-last : (cs : List Call) (s : State) (c : Call) → after s (cs ++ (c ∷ [])) ≡ outcomeOf (after s cs) c .state
@@ -109,15 +124,15 @@ after-last [] s c = refl
 after-last (d ∷ cs) s c = after-last cs (outcomeOf s d .state) c
 
 -- the state that they left is that of the definitions
-pub run-is : {n : ℕ} {lent : Storage} {cs : List Call} {s : State} → Run n lent cs s
+pub called-is : {n : ℕ} {lent : Storage} {cs : List Call} {s : State} → Called n lent cs s
     → (startOf n lent .answer .refusal ≡ 0) × (s ≡ after (startOf n lent .state) cs)
 unfolding after
-run-is (begun r tags policies counts e a) = (ap (λ (o : Outcome). o .answer .refusal) (sym e) ∙ a, ap (λ (o : Outcome). o .state) e)
-run-is {n} {lent} (called {cs} {s} x c r tags e) =
-    let w = run-is x in
+called-is (begun r tags policies counts e a) = (ap (λ (o : Outcome). o .answer .refusal) (sym e) ∙ a, ap (λ (o : Outcome). o .state) e)
+called-is {n} {lent} (called {cs} {s} x c r tags e) =
+    let w = called-is x in
     (w .0, ap (λ (o : Outcome). o .state) e ∙ ap (λ (t : State). outcomeOf t c .state) (w .1) ∙ sym (after-last cs (startOf n lent .state) c))
 
--- SUCH RUNS THERE ARE: what is known of the calls can be met for every list of them
+-- WHAT IS KNOWN OF THE CALLS CAN BE MET, for every list of them
 
 -- an answer that a reply stands for
 abbrev HasReply : ℕ → ℕ → Type 0
@@ -180,9 +195,9 @@ call-left s c =
       λ i. record { answer = w .1 i; state = stateOf (o .state .header) (o .state .storage .tags) (sym (p .0) i) (sym (p .1) i) (o .state .storage .flows) },
     )
 
--- so every list of calls has a run, from every start that is accepted
-pub run-of : (n : ℕ) (lent : Storage) → startOf n lent .answer .refusal ≡ 0 → (cs : List Call) → (s : State) × Run n lent cs s
-run-of n lent a cs =
+-- so every list of calls can be called, from every start that is accepted
+pub called-of : (n : ℕ) (lent : Storage) → startOf n lent .answer .refusal ≡ 0 → (cs : List Call) → (s : State) × Called n lent cs s
+called-of n lent a cs =
     from cs [] _
     (begun (givenBack (Accepted (o .answer .gain)) (o .state .header) (o .state .storage .flows)) (o .state .storage .tags) (o .state .storage .policies)
     (o .state .storage .policyCounts) (λ i. record { answer = record { refusal = sym a i; gain = o .answer .gain }; state = o .state }) refl)
@@ -190,9 +205,9 @@ run-of n lent a cs =
     o : Outcome
     o = startOf n lent
 
-    from : (cs done : List Call) (s : State) → Run n lent done s → (s : State) × Run n lent (done ++ cs) s
-    from [] done s x = (s, subst (λ (ds : List Call). Run n lent ds s) (sym (append-nil done)) x)
+    from : (cs done : List Call) (s : State) → Called n lent done s → (s : State) × Called n lent (done ++ cs) s
+    from [] done s x = (s, subst (λ (ds : List Call). Called n lent ds s) (sym (append-nil done)) x)
     from (c ∷ cs) done s x =
         let w = call-left s c in
         let y = from cs (done ++ (c ∷ [])) _ (called x c (w .0) (w .1) (w .2)) in
-        (y .0, subst (λ (ds : List Call). Run n lent ds (y .0)) (append-assoc done (c ∷ []) cs) (y .1))
+        (y .0, subst (λ (ds : List Call). Called n lent ds (y .0)) (append-assoc done (c ∷ []) cs) (y .1))

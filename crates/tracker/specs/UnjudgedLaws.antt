@@ -2,29 +2,30 @@
 -- moved away. Assumes nothing.
 use mathlib.Core.Path.{_≡_, refl, sym, ap, ap₂, _∙_, subst}
 use mathlib.Core.Bool.{Bool, true, false, not}
+use mathlib.Core.Logic.{_↔_}
 use mathlib.Core.List.{List, [], _∷_, _++_}
 use Prim.Native.Nat.{ℕ, zero, suc, _+_, _-_, _*_, _≤_, _<_}
 use native.Mathlib.Omega.{arith}
 use lib.ListN.{length, drop, length-append}
 use Rattle.truth.specs.Truth.{iff}
-use Rattle.refusal.specs.Order.{firstOf}
+use Rattle.refusal.specs.Order.{firstOf, IsFirst}
 use Rattle.model.specs.declared.Flow.{Flow}
 use Rattle.model.specs.Model.{edgesOf, without, isEnabled}
 use Rattle.model.specs.Closure.{Within}
 use Rattle.tagset.specs.Set.{has}
 use Rattle.tagset.specs.Laws.{ext, subset-of-has}
-use Rattle.state.specs.State.{State, badSize, setAt, flowsOf, withFlows}
-use Rattle.state.specs.Valid.{validOf}
+use Rattle.state.specs.State.{State, setAt, flowsOf, withFlows}
 use Rattle.state.specs.Layout.{Fit64, set-fits}
 use Rattle.state.specs.IsValid.{sized, valid, Usable}
 use Rattle.tagstore.specs.Store.{totalOf}
 use Rattle.tagstore.specs.Laws.{words-ext}
 use Rattle.flowtable.specs.FlowTable.{placeOf, removedAt}
 use Rattle.flowtable.specs.Laws.{appended, appended-flows, without-count, removed}
+use Rattle.validity.specs.Judge.{stateOrder}
 use Rattle.propagation.specs.Exact.{passed-length, passed-beyond, passed-fits, exact, after-is, pairs-total}
 use Rattle.propagation.specs.Pass.{passesOf, passed, setsAfter, pairsAdded}
 use Rattle.outcome.specs.Outcome.{decided, stored, propagated, gainOf, changed, enabling, disabling, enableOrder, enableOf, disableOrder, disableOf, outcomeOf}
-use Rattle.outcome.specs.Refusals.{decided-number}
+use Rattle.outcome.specs.Refusals.{decided-number, decided-refusal, decided-refused}
 use Rattle.outcome.specs.Propagation.{propagated-has, propagated-fits}
 use Rattle.outcome.specs.Table.{Enables}
 use Rattle.outcome.specs.Stays.{usable-count, propagated-length, propagated-keeps, flows-within, changed-flows, enable-usable}
@@ -73,9 +74,27 @@ unfolding decided
 decided-same zero s e = let p = e refl in ap₂ (λ g a. decided 0 s g a) (p .0) (p .1)
 decided-same (suc k) s e = refl
 
+-- FOR EVERY STATE the refusal is the first that stands after 9 and 12, and a refused event changes nothing
+pub apply-enable-refusal : (s : State) (f : Flow) (k : ℕ) → (applyEnableOf s f .answer .refusal ≡ suc k) ↔ IsFirst (drop 2 (enableOrder s f)) (suc k)
+unfolding applyEnableOf
+apply-enable-refusal s f k = decided-refusal (drop 2 (enableOrder s f)) s _ _ k
+
+pub apply-enable-refused : (s : State) (f : Flow) (k : ℕ) → applyEnableOf s f .answer .refusal ≡ suc k
+    → (applyEnableOf s f .state ≡ s) × (applyEnableOf s f .answer .gain ≡ 0)
+unfolding applyEnableOf
+apply-enable-refused s f k = decided-refused (firstOf (drop 2 (enableOrder s f)) 0) s _ _ k
+
+pub apply-disable-refusal : (s : State) (j k : ℕ) → (applyDisableOf s j .answer .refusal ≡ suc k) ↔ IsFirst (drop 2 (disableOrder s j)) (suc k)
+unfolding applyDisableOf
+apply-disable-refusal s j k = decided-refusal (drop 2 (disableOrder s j)) s _ _ k
+
+pub apply-disable-refused : (s : State) (j k : ℕ) → applyDisableOf s j .answer .refusal ≡ suc k
+    → (applyDisableOf s j .state ≡ s) × (applyDisableOf s j .answer .gain ≡ 0)
+unfolding applyDisableOf
+apply-disable-refused s j k = decided-refused (firstOf (drop 2 (disableOrder s j)) 0) s _ _ k
+
 -- on a usable state the first two conditions of an order do not hold
-judged : (s : State) → Usable s → (rest : List (Bool × ℕ))
-    → firstOf ((badSize (s .header .containers) (s .storage), 9) ∷ (not (validOf s), 12) ∷ rest) 0 ≡ firstOf rest 0
+judged : (s : State) → Usable s → (rest : List (Bool × ℕ)) → firstOf (stateOrder s ++ rest) 0 ≡ firstOf rest 0
 judged s u rest = rw (sized (s .header .containers) (s .storage) .1 (u .sized), valid s .1 (u .valid)) refl
 
 module _ (s : State) (u : Usable s) where
