@@ -15,13 +15,16 @@ use Rattle.tagstore.specs.Store.{zeroFront}
 use Rattle.tagstore.specs.Starting.{zero-front, own-all}
 use Rattle.validity.specs.Judge.{stateOrder}
 use Rattle.tracker.specs.Replies.{refused, givenBack, leftBy}
-use Rattle.outcome.specs.Outcome.{decided, noHeader, started, startOrder, startOf, enableOrder, enableOf, disableOrder, disableOf}
+use Rattle.outcome.specs.Outcome.{Outcome, decided, noHeader, started, startOrder, startOf, enableOrder, enableOf, disableOrder, disableOf}
 use Rattle.tracker.specs.declared.Reply.the-variants.{Accepted}
 
 -- EVENTS
 
--- a refusal leaves the state
-pub refuses : (r k : ℕ) (s : State) (gain : ℕ) (s' : State) → r ≡ suc k → decided r s gain s' ≡ record { answer = refused (suc k); state = s }
+-- the outcome of a refusal: the state is left
+abbrev pub refusedIn : State → ℕ → Outcome
+refusedIn s k = record { answer = refused k; state = s }
+
+pub refuses : (r k : ℕ) (s : State) (gain : ℕ) (s' : State) → r ≡ suc k → decided r s gain s' ≡ refusedIn s (suc k)
 unfolding decided
 refuses r k s gain s' e = rw e refl
 
@@ -45,11 +48,11 @@ module _ (s : State) where
       go false false e = absurd (omega (arith, e))
 
   -- so both calls answer it, and leave the state
-  pub enable-judged : (f : Flow) (k : ℕ) → firstOf (stateOrder s) 0 ≡ suc k → enableOf s f ≡ record { answer = refused (suc k); state = s }
+  pub enable-judged : (f : Flow) (k : ℕ) → firstOf (stateOrder s) 0 ≡ suc k → enableOf s f ≡ refusedIn s (suc k)
   unfolding enableOf enableOrder
   enable-judged f k e = refuses (firstOf (enableOrder s f) 0) k s _ _ (judged-first k (drop 2 (enableOrder s f)) e)
 
-  pub disable-judged : (number k : ℕ) → firstOf (stateOrder s) 0 ≡ suc k → disableOf s number ≡ record { answer = refused (suc k); state = s }
+  pub disable-judged : (number k : ℕ) → firstOf (stateOrder s) 0 ≡ suc k → disableOf s number ≡ refusedIn s (suc k)
   unfolding disableOf disableOrder
   disable-judged number k e = refuses (firstOf (disableOrder s number) 0) k s _ _ (judged-first k (drop 2 (disableOrder s number)) e)
 
@@ -65,7 +68,7 @@ module _ (n : ℕ) (tags policies counts : List ℕ) (flows : List Flow) (long :
 
   -- a start with a bad size is refused
   pub start-judged : {b : Bool} → b ≡ shortOf n (length tags) (length policies) (length counts) 512 → b ≡ true
-      → startOf n lent ≡ record { answer = refused 9; state = record { header = noHeader; storage = lent } }
+      → startOf n lent ≡ refusedIn (record { header = noHeader; storage = lent }) 9
   unfolding startOf startOrder decided
   start-judged e t = rw (short e ∙ t) refl
 

@@ -18,14 +18,10 @@ use Rattle.propagation.specs.Pass.{setsAfter, pairsAdded}
 use Rattle.tracker.specs.declared.Answered.{Answered}
 use Rattle.tracker.specs.declared.Reply.{Reply}
 use Rattle.tracker.specs.declared.Reply.the-variants.{Accepted}
-use Rattle.tracker.specs.Replies.{refused, answerOf, givenBack, leftBy}
+use Rattle.tracker.specs.Replies.{answerOf, givenBack, leftBy}
 use Rattle.outcome.specs.Outcome.{Outcome, decided, enableOrder, disableOrder}
-use Rattle.tracker.specs.Judged.{refuses}
+use Rattle.tracker.specs.Judged.{refusedIn, refuses}
 use Rattle.tracker.specs.Unjudged.{appendedTo, carrying, applyEnableOf, applyDisableOf}
-
--- the outcome of a refusal
-abbrev pub refusedIn : State → ℕ → Outcome
-refusedIn s k = record { answer = refused k; state = s }
 
 -- a call that gives back what it was given
 pub left-refused : {r : Answered} {reply : Reply} {o : Outcome} (s : State) → r ≡ givenBack reply (s .header) (s .storage .flows)

@@ -4,7 +4,7 @@ use state::Header;
 use tagset::TagSet;
 ghost use mathlib.Core.Path.{_≡_};
 ghost use mathlib.Core.Bool.{false};
-ghost use Prim.Native.Nat.{_+_, _*_, _≤_, _<_};
+ghost use Prim.Native.Nat.{_+_, _*_, _≤_};
 ghost use lib.ListN.{length, take};
 ghost use Rattle.refusal.specs.Order.{firstOf};
 ghost use Rattle.state.specs.State.{shortOf, stateOf};

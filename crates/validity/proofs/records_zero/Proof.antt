@@ -53,7 +53,7 @@ array-copy-out-f c = search needs
 turned : (c : tie.In-loop Inv-loop μ-loop) (t : Bool)
     → (let f = getD (c .before .before .args .t1) (c .before .loop .k) noFlow in not (eqb (f .number) 0) || not (eqb (f .from) 0) || not (eqb (f .to) 0) ≡ t)
     → recordsZero (c .before .before .args .count) (c .before .before .args .t1) ≡ cond t false (recordsZero (c .before .loop .k + 1) (c .before .before .args .t1))
-turned c t q = c .before .loop .inv .1 ∙ turn (c .before .before .args .t1) (c .before .loop .k) t (c .loop-test .taken) (c .before .before .good .0 .1 .0 .1) q
+turned c t q = c .before .loop .inv .1 ∙ turn (c .before .before .args .t1) (c .before .loop .k) t (omega arith) (c .before .before .good .0 .1 .0 .1) q
 
 returns : tie.Need-returns Inv-loop μ-loop
 returns c = sym (turned (c .before .before .before .before .before) true (c .if1 .taken))
