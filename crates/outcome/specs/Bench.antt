@@ -9,7 +9,7 @@ use Rattle.model.specs.Reach.{tabulate, matrix, cell, isEdge, reachVia}
 use Rattle.tagset.specs.Set.{has, hasW, bitAt, emptySet, singleOf, unionOf, subsetOf, exceedsOf, countBelow, allBelow, anyBelow}
 use Rattle.state.specs.State.{Storage, State, badSize, setAt, withSets, flowsOf, withFlows}
 use Rattle.state.specs.Valid.{allOf, risingFrom, inLimits, countsInLimits, numbersRise, endsProper, tagsKnown, ownTags, setsCarried, unusedZero, validOf}
-use Rattle.outcome.specs.Outcome.{decided, startOrder, started, startOf, enableOrder, unionOver, propagated, gainOf, changed, enabling, enableOf, disableOrder, disabling, disableOf, Call, ask, outcomeOf, after}
+use Rattle.outcome.specs.Outcome.{decided, startOrder, started, startOf, enableLater, enableOrder, unionOver, propagated, gainOf, changed, enabling, enableOf, disableLater, disableOrder, disabling, disableOf, Call, ask, outcomeOf, after}
 
 -- a row: n, the events asked for, and what comes of them: each answer (a refusal and a gain), and each container's tags, rising
 pub record Sample : Type 0 where
@@ -136,7 +136,7 @@ samples =
 
 -- every row is what the definitions give
 pub samples-hold : map computed samples ≡ samples
-unfolding samples computed answers after those lent edgesOf without keep isEnabled tabulate matrix cell isEdge reachVia hasW bitAt emptySet singleOf unionOf subsetOf exceedsOf countBelow allBelow anyBelow badSize setAt withSets flowsOf withFlows allOf risingFrom inLimits countsInLimits numbersRise endsProper tagsKnown ownTags setsCarried unusedZero validOf decided startOrder started startOf enableOrder unionOver propagated gainOf changed enabling enableOf disableOrder disabling disableOf outcomeOf
+unfolding samples computed answers after those lent edgesOf without keep isEnabled tabulate matrix cell isEdge reachVia hasW bitAt emptySet singleOf unionOf subsetOf exceedsOf countBelow allBelow anyBelow badSize setAt withSets flowsOf withFlows allOf risingFrom inLimits countsInLimits numbersRise endsProper tagsKnown ownTags setsCarried unusedZero validOf decided startOrder started startOf enableOrder enableLater unionOver propagated gainOf changed enabling enableOf disableOrder disableLater disabling disableOf outcomeOf
 samples-hold = refl
 
 -- what starting answers to n in storage for m containers

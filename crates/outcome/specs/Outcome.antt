@@ -12,7 +12,7 @@ use Rattle.tagset.specs.declared.TagSet.{TagSet}
 use Rattle.tagset.specs.Set.{has, emptySet, singleOf, unionOf, countBelow}
 use Rattle.state.specs.declared.Header.{Header}
 use Rattle.state.specs.State.{Storage, State, badSize, setAt, withSets, flowsOf, withFlows}
-use Rattle.state.specs.Valid.{validOf}
+use Rattle.state.specs.Valid.{stateOrder}
 
 -- the refusal's number, 0 where the call is accepted, and the gain
 pub record Answer : Type 0 where
@@ -60,16 +60,17 @@ startOf n lent = decided (firstOf (startOrder n lent) 0) (record { header = noHe
 
 -- ENABLING
 
--- 'Opening: 9, 12, 4 for from, 4 for to, 5, 6, 7'
-unfoldable pub enableOrder : State → Flow → List (Bool × ℕ)
-enableOrder s f =
-    (badSize (s .header .containers) (s .storage), 9)
-    ∷ (not (validOf s), 12)
-    ∷ (leb (s .header .containers) (f .from), 4)
+-- 'Opening: 9, 12, 4 for from, 4 for to, 5, 6, 7'; those after 9 and 12 by themselves too, since they decide what joins a history
+unfoldable pub enableLater : State → Flow → List (Bool × ℕ)
+enableLater s f =
+    (leb (s .header .containers) (f .from), 4)
     ∷ (leb (s .header .containers) (f .to), 4)
     ∷ (eqb (f .from) (f .to), 5)
     ∷ (leb (f .number) (s .header .greatest), 6)
     ∷ (leb 512 (s .header .count), 7) ∷ []
+
+unfoldable pub enableOrder : State → Flow → List (Bool × ℕ)
+enableOrder s f = stateOrder s ++ enableLater s f
 
 -- the sets of all a below n that pass the test, united
 unfoldable pub unionOver : ℕ → (ℕ → Bool) → (ℕ → TagSet) → TagSet
@@ -111,8 +112,11 @@ enableOf s f =
 -- DISABLING
 
 -- 'Closing: 9, 12, 8'
+unfoldable pub disableLater : State → ℕ → List (Bool × ℕ)
+disableLater s k = (not (isEnabled k (flowsOf s)), 8) ∷ []
+
 unfoldable pub disableOrder : State → ℕ → List (Bool × ℕ)
-disableOrder s k = (badSize (s .header .containers) (s .storage), 9) ∷ (not (validOf s), 12) ∷ (not (isEnabled k (flowsOf s)), 8) ∷ []
+disableOrder s k = stateOrder s ++ disableLater s k
 
 -- the state after an accepted disable: 'a closing moves the later records down by one', 'it takes no tag away'
 unfoldable pub disabling : State → ℕ → State

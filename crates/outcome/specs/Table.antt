@@ -16,7 +16,7 @@ use Rattle.model.specs.Standing.{enabled-number, number-enabled}
 use Rattle.state.specs.State.{Storage, State, badSize, flowsOf}
 use Rattle.state.specs.Valid.{validOf}
 use Rattle.state.specs.IsValid.{IsSized, sized, ProperEnds, IsValid, valid, Usable}
-use Rattle.outcome.specs.Outcome.{noHeader, startOrder, started, startOf, enableOrder, enabling, enableOf, disableOrder, disabling, disableOf}
+use Rattle.outcome.specs.Outcome.{noHeader, startOrder, started, startOf, enableLater, enableOrder, enabling, enableOf, disableLater, disableOrder, disabling, disableOf}
 use Rattle.outcome.specs.Refusals.{decided-number}
 
 -- 'Starting: 9'
@@ -103,7 +103,7 @@ start-answers n lent k =
 
 -- a row's number is the one answered
 enable-number : (s : State) (f : Flow) {k : ℕ} → EnableAnswers s f k → firstOf (enableOrder s f) 0 ≡ k
-unfolding enableOrder
+unfolding enableOrder enableLater
 enable-number s f (bad-size z) = rw (too-short (s .header .containers) (s .storage) z) refl
 enable-number s f (invalid-state z v) = rw (sized (s .header .containers) (s .storage) .1 z, invalid s v) refl
 enable-number s f (no-such-from u x) = rw (sized-state s u, valid-state s u, le-leb (s .header .containers) (f .from) x) refl
@@ -159,7 +159,7 @@ missing k fs h = cases (isEnabled k fs) (λ e. let w = enabled-number k fs e in 
 
 -- a row's number is the one answered
 disable-number : (s : State) (k : ℕ) {j : ℕ} → DisableAnswers s k j → firstOf (disableOrder s k) 0 ≡ j
-unfolding disableOrder
+unfolding disableOrder disableLater
 disable-number s k (bad-size z) = rw (too-short (s .header .containers) (s .storage) z) refl
 disable-number s k (invalid-state z v) = rw (sized (s .header .containers) (s .storage) .1 z, invalid s v) refl
 disable-number s k (not-enabled u h) = rw (sized-state s u, valid-state s u, missing k (flowsOf s) h) refl

@@ -8,7 +8,7 @@ use lib.ListN.{getD, take, drop}
 use Rattle.model.specs.declared.Flow.{Flow}
 use Rattle.model.specs.Model.{edgesOf}
 use Rattle.tagset.specs.Set.{has, implies, allBelow, subsetOf, exceedsOf}
-use Rattle.state.specs.State.{State, setAt, flowsOf}
+use Rattle.state.specs.State.{State, badSize, setAt, flowsOf}
 
 -- every element passes the test
 unfoldable pub allOf : {A : Type 0} → (A → Bool) → List A → Bool
@@ -63,3 +63,7 @@ unusedZero s =
 -- a book is sound if all of them hold
 unfoldable pub validOf : State → Bool
 validOf s = inLimits s && countsInLimits s && numbersRise s && endsProper s && tagsKnown s && ownTags s && setsCarried s && unusedZero s
+
+-- how the order of every call on a state begins: 9 'bad size', 12 'unsound book'
+abbrev pub stateOrder : State → List (Bool × ℕ)
+stateOrder s = (badSize (s .header .containers) (s .storage), 9) ∷ (not (validOf s), 12) ∷ []

@@ -8,7 +8,7 @@ use mathlib.Mathlib.Logic.Relation.{ReflTransGenᴰ}
 use Prim.Native.Nat.{ℕ, suc, _+_, _*_, _/_, _%_, _^_, _≤_, _<_}
 use native.Mathlib.Omega.{arith}
 use lib.Dec.{eqb}
-use lib.ListN.{length, getD, drop}
+use lib.ListN.{length, getD}
 use Rattle.truth.specs.Truth.{iff}
 use Rattle.refusal.specs.Order.{IsFirst}
 use Rattle.model.specs.declared.Flow.{Flow}
@@ -32,7 +32,7 @@ use Rattle.tracker.specs.Replies.{answerOf, answer-injective, leftBy}
 use Rattle.tracker.specs.Unjudged.{applyEnableOf, applyDisableOf}
 use Rattle.tracker.specs.UnjudgedLaws.{passes-propagate, passes-gain, apply-enable-refusal, apply-enable-refused, apply-disable-refusal, apply-disable-refused, apply-enable, apply-disable}
 use Rattle.tracker.specs.Running.{StartDoes, start-does, EnableDoes, enable-does, DisableDoes, disable-does, Called, called-is, called-of}
-use Rattle.outcome.specs.Outcome.{Outcome, startOrder, enableOrder, disableOrder, startOf, propagated, gainOf, enableOf, disableOf, Call, ask, orderOf, outcomeOf, eventsOf, after, configurationOf}
+use Rattle.outcome.specs.Outcome.{Outcome, startOrder, enableLater, disableLater, startOf, propagated, gainOf, enableOf, disableOf, Call, ask, orderOf, outcomeOf, eventsOf, after, configurationOf}
 use Rattle.outcome.specs.Refusals.{start-refusal, start-refused, call-refusal, call-refused}
 use Rattle.outcome.specs.Table.{StartAnswers, start-answers, EnableAnswers, enable-answers, DisableAnswers, disable-answers}
 use Rattle.outcome.specs.Stays.{settled}
@@ -256,14 +256,14 @@ what-disable-does s k r e = subst (DisableDoes s k) (sym e) (disable-does s k)
 
 -- `apply_enable` and `apply_disable`, which judge no state. On every state they answer the first refusal that stands after 9 and 12 in the event's order,
 -- and a refused event changes nothing
-pub apply-enable-answers-the-first : (s : State) (f : Flow) (k : ℕ) → (applyEnableOf s f .answer .refusal ≡ suc k) ↔ IsFirst (drop 2 (enableOrder s f)) (suc k)
+pub apply-enable-answers-the-first : (s : State) (f : Flow) (k : ℕ) → (applyEnableOf s f .answer .refusal ≡ suc k) ↔ IsFirst (enableLater s f) (suc k)
 apply-enable-answers-the-first = apply-enable-refusal
 
 pub refused-apply-enable-changes-nothing : (s : State) (f : Flow) (k : ℕ) → applyEnableOf s f .answer .refusal ≡ suc k
     → (applyEnableOf s f .state ≡ s) × (applyEnableOf s f .answer .gain ≡ 0)
 refused-apply-enable-changes-nothing = apply-enable-refused
 
-pub apply-disable-answers-the-first : (s : State) (j k : ℕ) → (applyDisableOf s j .answer .refusal ≡ suc k) ↔ IsFirst (drop 2 (disableOrder s j)) (suc k)
+pub apply-disable-answers-the-first : (s : State) (j k : ℕ) → (applyDisableOf s j .answer .refusal ≡ suc k) ↔ IsFirst (disableLater s j) (suc k)
 apply-disable-answers-the-first = apply-disable-refusal
 
 pub refused-apply-disable-changes-nothing : (s : State) (j k : ℕ) → applyDisableOf s j .answer .refusal ≡ suc k

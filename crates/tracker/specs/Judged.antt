@@ -13,9 +13,9 @@ use Rattle.state.specs.Valid.{validOf}
 use Rattle.state.specs.IsValid.{IsSized, sized, bad-size-short, valid, Usable}
 use Rattle.tagstore.specs.Store.{zeroFront}
 use Rattle.tagstore.specs.Starting.{zero-front, own-all}
-use Rattle.validity.specs.Judge.{stateOrder}
+use Rattle.state.specs.Valid.{stateOrder}
 use Rattle.tracker.specs.Replies.{refused, givenBack, leftBy}
-use Rattle.outcome.specs.Outcome.{Outcome, decided, noHeader, started, startOrder, startOf, enableOrder, enableOf, disableOrder, disableOf}
+use Rattle.outcome.specs.Outcome.{Outcome, decided, noHeader, started, startOrder, startOf, enableLater, enableOrder, enableOf, disableLater, disableOrder, disableOf}
 use Rattle.tracker.specs.declared.Reply.the-variants.{Accepted}
 
 -- EVENTS
@@ -50,11 +50,11 @@ module _ (s : State) where
   -- so both calls answer it, and leave the state
   pub enable-judged : (f : Flow) (k : ℕ) → firstOf (stateOrder s) 0 ≡ suc k → enableOf s f ≡ refusedIn s (suc k)
   unfolding enableOf enableOrder
-  enable-judged f k e = refuses (firstOf (enableOrder s f) 0) k s _ _ (judged-first k (drop 2 (enableOrder s f)) e)
+  enable-judged f k e = refuses (firstOf (enableOrder s f) 0) k s _ _ (judged-first k (enableLater s f) e)
 
   pub disable-judged : (number k : ℕ) → firstOf (stateOrder s) 0 ≡ suc k → disableOf s number ≡ refusedIn s (suc k)
   unfolding disableOf disableOrder
-  disable-judged number k e = refuses (firstOf (disableOrder s number) 0) k s _ _ (judged-first k (drop 2 (disableOrder s number)) e)
+  disable-judged number k e = refuses (firstOf (disableOrder s number) 0) k s _ _ (judged-first k (disableLater s number) e)
 
 -- STARTING
 

@@ -2,13 +2,13 @@
 -- is that of the public calls (laws `apply-enable`, `apply-disable` of UnjudgedLaws.antt). Assumes nothing.
 use mathlib.Core.List.{List}
 use Prim.Native.Nat.{ℕ, _+_, _-_}
-use lib.ListN.{set, take, drop}
+use lib.ListN.{set, take}
 use Rattle.refusal.specs.Order.{firstOf}
 use Rattle.model.specs.declared.Flow.{Flow}
 use Rattle.state.specs.State.{State, flowsOf}
 use Rattle.flowtable.specs.FlowTable.{placeOf, removedAt}
 use Rattle.propagation.specs.Pass.{setsAfter, pairsAdded}
-use Rattle.outcome.specs.Outcome.{Outcome, decided, stored, enableOrder, disableOrder}
+use Rattle.outcome.specs.Outcome.{Outcome, decided, stored, enableLater, disableLater}
 
 -- the flow stands in the first free place of the table, and the flows up to it carry
 unfoldable pub appendedTo : State → Flow → List Flow
@@ -21,11 +21,11 @@ carrying s f = take (s .header .count + 1) (appendedTo s f)
 unfoldable pub applyEnableOf : State → Flow → Outcome
 applyEnableOf s f =
     let n = s .header .containers in
-    decided (firstOf (drop 2 (enableOrder s f)) 0) s (pairsAdded n (carrying s f) (s .storage .tags))
+    decided (firstOf (enableLater s f) 0) s (pairsAdded n (carrying s f) (s .storage .tags))
     (stored s (s .header .count + 1) (appendedTo s f) (f .number) (setsAfter n (carrying s f) (s .storage .tags)))
 
 -- disabling where neither 9 nor 12 is judged
 unfoldable pub applyDisableOf : State → ℕ → Outcome
 applyDisableOf s k =
-    decided (firstOf (drop 2 (disableOrder s k)) 0) s 0
+    decided (firstOf (disableLater s k) 0) s 0
     (stored s (s .header .count - 1) (removedAt (placeOf k (flowsOf s)) (s .header .count) (s .storage .flows)) (s .header .greatest) (s .storage .tags))

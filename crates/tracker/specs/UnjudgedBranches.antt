@@ -5,7 +5,7 @@ use mathlib.Core.List.{List, [], _∷_}
 use mathlib.Core.Logic.{_≢_}
 use Prim.Native.Nat.{ℕ, zero, suc, _+_, _-_, _≤_, _<_}
 use native.Mathlib.Omega.{arith}
-use lib.ListN.{set, take, drop}
+use lib.ListN.{set, take}
 use borrow.Author.Tests.{le-leb, lt-leb, eq-eqb, ne-eqb}
 use Rattle.refusal.specs.Order.{firstOf}
 use Rattle.model.specs.declared.Flow.{Flow}
@@ -19,7 +19,7 @@ use Rattle.tracker.specs.declared.Answered.{Answered}
 use Rattle.tracker.specs.declared.Reply.{Reply}
 use Rattle.tracker.specs.declared.Reply.the-variants.{Accepted}
 use Rattle.tracker.specs.Replies.{answerOf, givenBack, leftBy}
-use Rattle.outcome.specs.Outcome.{Outcome, decided, enableOrder, disableOrder}
+use Rattle.outcome.specs.Outcome.{Outcome, decided, enableLater, disableLater}
 use Rattle.tracker.specs.Judged.{refusedIn, refuses}
 use Rattle.tracker.specs.Unjudged.{appendedTo, carrying, applyEnableOf, applyDisableOf}
 
@@ -32,25 +32,25 @@ left-refused s e p = ap (λ (r : Answered). leftBy r (s .storage .tags) (s .stor
 
 module _ (s : State) (f : Flow) where
   -- the first of its tests that holds decides
-  enable-first : (k : ℕ) → firstOf (drop 2 (enableOrder s f)) 0 ≡ suc k → applyEnableOf s f ≡ refusedIn s (suc k)
+  enable-first : (k : ℕ) → firstOf (enableLater s f) 0 ≡ suc k → applyEnableOf s f ≡ refusedIn s (suc k)
   unfolding applyEnableOf
-  enable-first k e = refuses (firstOf (drop 2 (enableOrder s f)) 0) k s _ _ e
+  enable-first k e = refuses (firstOf (enableLater s f) 0) k s _ _ e
 
   -- 4: no such source
   pub no-from : s .header .containers ≤ f .from → applyEnableOf s f ≡ refusedIn s 4
-  unfolding enableOrder
+  unfolding enableLater
   no-from a = enable-first 3 (simp (le-leb (s .header .containers) (f .from) a) refl)
 
   module _ (a : f .from < s .header .containers) where
     -- 4: no such destination
     pub no-to : s .header .containers ≤ f .to → applyEnableOf s f ≡ refusedIn s 4
-    unfolding enableOrder
+    unfolding enableLater
     no-to b = enable-first 3 (simp (lt-leb (s .header .containers) (f .from) a, le-leb (s .header .containers) (f .to) b) refl)
 
     module _ (b : f .to < s .header .containers) where
       -- 5: a flow to its own source
       pub self-flow : f .from ≡ f .to → applyEnableOf s f ≡ refusedIn s 5
-      unfolding enableOrder
+      unfolding enableLater
       self-flow c =
           enable-first 4
           (simp (lt-leb (s .header .containers) (f .from) a, lt-leb (s .header .containers) (f .to) b, eq-eqb (f .from) (f .to) c) refl)
@@ -58,7 +58,7 @@ module _ (s : State) (f : Flow) where
       module _ (c : f .from ≢ f .to) where
         -- 6: a number not above the greatest
         pub stale : f .number ≤ s .header .greatest → applyEnableOf s f ≡ refusedIn s 6
-        unfolding enableOrder
+        unfolding enableLater
         stale d =
             enable-first 5
             (simp (lt-leb (s .header .containers) (f .from) a, lt-leb (s .header .containers) (f .to) b, ne-eqb (f .from) (f .to) c, le-leb (f .number) (s .header .greatest) d) refl)
@@ -66,7 +66,7 @@ module _ (s : State) (f : Flow) where
         module _ (d : s .header .greatest < f .number) where
           -- 7: no place left
           pub full : 512 ≤ s .header .count → applyEnableOf s f ≡ refusedIn s 7
-          unfolding enableOrder
+          unfolding enableLater
           full e =
               enable-first 6
               (simp (lt-leb (s .header .containers) (f .from) a, lt-leb (s .header .containers) (f .to) b, ne-eqb (f .from) (f .to) c, lt-leb (f .number) (s .header .greatest) d, le-leb 512 (s .header .count) e) refl)
@@ -77,7 +77,7 @@ module _ (s : State) (f : Flow) where
               → gain ≡ pairsAdded (s .header .containers) (take (s .header .count + 1) table) (s .storage .tags)
               → leftBy (givenBack (Accepted gain) (record { containers = s .header .containers; count = s .header .count + 1; greatest = f .number }) table) tags (s .storage .policies) (s .storage .policyCounts)
               ≡ applyEnableOf s f
-          unfolding applyEnableOf enableOrder decided appendedTo carrying
+          unfolding applyEnableOf enableLater decided appendedTo carrying
           enables e p q r =
               simp (lt-leb (s .header .containers) (f .from) a, lt-leb (s .header .containers) (f .to) b, ne-eqb (f .from) (f .to) c, lt-leb (f .number) (s .header .greatest) d, lt-leb 512 (s .header .count) e) (rw (q, r, p) refl)
 
@@ -86,7 +86,7 @@ module _ (s : State) (f : Flow) where
 module _ (s : State) (k : ℕ) where
   -- 8: no flow of this number
   pub not-enabled : Absent ≡ foundIn k (flowsOf s) → applyDisableOf s k ≡ refusedIn s 8
-  unfolding applyDisableOf disableOrder
+  unfolding applyDisableOf disableLater
   not-enabled a = refuses (firstOf {A = ℕ} ((not (isEnabled k (flowsOf s)), 8) ∷ []) 0) 7 s _ _ (rw (found-absent k (flowsOf s) a) refl)
 
   -- where there is one, some flow is enabled
@@ -102,5 +102,5 @@ module _ (s : State) (k : ℕ) where
   pub disables : {place : ℕ} {table : List Flow} → At place ≡ foundIn k (flowsOf s) → table ≡ removedAt place (s .header .count) (s .storage .flows)
       → leftBy (givenBack (Accepted 0) (record { containers = s .header .containers; count = s .header .count - 1; greatest = s .header .greatest }) table) (s .storage .tags) (s .storage .policies) (s .storage .policyCounts)
       ≡ applyDisableOf s k
-  unfolding applyDisableOf disableOrder decided
+  unfolding applyDisableOf disableLater decided
   disables a p = let e = found-place k (flowsOf s) a in rw (e .0, p, e .1) refl

@@ -6,7 +6,7 @@ use mathlib.Core.Logic.{_↔_}
 use mathlib.Core.List.{List, [], _∷_, _++_}
 use Prim.Native.Nat.{ℕ, zero, suc, _+_, _-_, _*_, _≤_, _<_}
 use native.Mathlib.Omega.{arith}
-use lib.ListN.{length, drop, length-append}
+use lib.ListN.{length, length-append}
 use Rattle.truth.specs.Truth.{iff}
 use Rattle.refusal.specs.Order.{firstOf, IsFirst}
 use Rattle.model.specs.declared.Flow.{Flow}
@@ -21,10 +21,10 @@ use Rattle.tagstore.specs.Store.{totalOf}
 use Rattle.tagstore.specs.Laws.{words-ext}
 use Rattle.flowtable.specs.FlowTable.{placeOf, removedAt}
 use Rattle.flowtable.specs.Laws.{appended, appended-flows, without-count, removed}
-use Rattle.validity.specs.Judge.{stateOrder}
+use Rattle.state.specs.Valid.{stateOrder}
 use Rattle.propagation.specs.Exact.{passed-length, passed-beyond, passed-fits, exact, after-is, pairs-total}
 use Rattle.propagation.specs.Pass.{passesOf, passed, setsAfter, pairsAdded}
-use Rattle.outcome.specs.Outcome.{decided, stored, propagated, gainOf, changed, enabling, disabling, enableOrder, enableOf, disableOrder, disableOf, outcomeOf}
+use Rattle.outcome.specs.Outcome.{decided, stored, propagated, gainOf, changed, enabling, disabling, enableLater, enableOrder, enableOf, disableLater, disableOrder, disableOf, outcomeOf}
 use Rattle.outcome.specs.Refusals.{decided-number, decided-refusal, decided-refused}
 use Rattle.outcome.specs.Propagation.{propagated-has, propagated-fits}
 use Rattle.outcome.specs.Table.{Enables}
@@ -75,23 +75,23 @@ decided-same zero s e = let p = e refl in ap₂ (λ g a. decided 0 s g a) (p .0)
 decided-same (suc k) s e = refl
 
 -- FOR EVERY STATE the refusal is the first that stands after 9 and 12, and a refused event changes nothing
-pub apply-enable-refusal : (s : State) (f : Flow) (k : ℕ) → (applyEnableOf s f .answer .refusal ≡ suc k) ↔ IsFirst (drop 2 (enableOrder s f)) (suc k)
+pub apply-enable-refusal : (s : State) (f : Flow) (k : ℕ) → (applyEnableOf s f .answer .refusal ≡ suc k) ↔ IsFirst (enableLater s f) (suc k)
 unfolding applyEnableOf
-apply-enable-refusal s f k = decided-refusal (drop 2 (enableOrder s f)) s _ _ k
+apply-enable-refusal s f k = decided-refusal (enableLater s f) s _ _ k
 
 pub apply-enable-refused : (s : State) (f : Flow) (k : ℕ) → applyEnableOf s f .answer .refusal ≡ suc k
     → (applyEnableOf s f .state ≡ s) × (applyEnableOf s f .answer .gain ≡ 0)
 unfolding applyEnableOf
-apply-enable-refused s f k = decided-refused (firstOf (drop 2 (enableOrder s f)) 0) s _ _ k
+apply-enable-refused s f k = decided-refused (firstOf (enableLater s f) 0) s _ _ k
 
-pub apply-disable-refusal : (s : State) (j k : ℕ) → (applyDisableOf s j .answer .refusal ≡ suc k) ↔ IsFirst (drop 2 (disableOrder s j)) (suc k)
+pub apply-disable-refusal : (s : State) (j k : ℕ) → (applyDisableOf s j .answer .refusal ≡ suc k) ↔ IsFirst (disableLater s j) (suc k)
 unfolding applyDisableOf
-apply-disable-refusal s j k = decided-refusal (drop 2 (disableOrder s j)) s _ _ k
+apply-disable-refusal s j k = decided-refusal (disableLater s j) s _ _ k
 
 pub apply-disable-refused : (s : State) (j k : ℕ) → applyDisableOf s j .answer .refusal ≡ suc k
     → (applyDisableOf s j .state ≡ s) × (applyDisableOf s j .answer .gain ≡ 0)
 unfolding applyDisableOf
-apply-disable-refused s j k = decided-refused (firstOf (drop 2 (disableOrder s j)) 0) s _ _ k
+apply-disable-refused s j k = decided-refused (firstOf (disableLater s j) 0) s _ _ k
 
 -- on a usable state the first two conditions of an order do not hold
 judged : (s : State) → Usable s → (rest : List (Bool × ℕ)) → firstOf (stateOrder s ++ rest) 0 ≡ firstOf rest 0
@@ -148,8 +148,8 @@ module _ (s : State) (u : Usable s) where
   pub apply-enable : (f : Flow) → Fit64 (s .storage .tags) → applyEnableOf s f ≡ enableOf s f
   unfolding applyEnableOf enableOf enableOrder outcomeOf
   apply-enable f fit =
-      let same : firstOf (enableOrder s f) 0 ≡ firstOf (drop 2 (enableOrder s f)) 0 = judged s u (drop 2 (enableOrder s f)) in
-      decided-same (firstOf (drop 2 (enableOrder s f)) 0) s
+      let same : firstOf (enableOrder s f) 0 ≡ firstOf (enableLater s f) 0 = judged s u (enableLater s f) in
+      decided-same (firstOf (enableLater s f) 0) s
       (λ z. enable-work f fit (enable-accepted s f .0 (decided-number (firstOf (enableOrder s f) 0) s _ _ ∙ same ∙ z)))
       ∙ ap (λ (r : ℕ). decided r s (gainOf (s .header .containers) (s .storage .tags) (enabling s f .storage .tags)) (enabling s f)) (sym same)
 
@@ -171,10 +171,10 @@ module _ (s : State) (u : Usable s) where
 
   -- DISABLE: the outcome is the public one
   pub apply-disable : (k : ℕ) → applyDisableOf s k ≡ disableOf s k
-  unfolding applyDisableOf disableOf disableOrder
+  unfolding applyDisableOf disableOf disableOrder disableLater
   apply-disable k =
-      let same : firstOf (disableOrder s k) 0 ≡ firstOf (drop 2 (disableOrder s k)) 0 = judged s u (drop 2 (disableOrder s k)) in
-      decided-same (firstOf (drop 2 (disableOrder s k)) 0) s (λ z. (refl, disable-work k (found (isEnabled k (flowsOf s)) z)))
+      let same : firstOf (disableOrder s k) 0 ≡ firstOf (disableLater s k) 0 = judged s u (disableLater s k) in
+      decided-same (firstOf (disableLater s k) 0) s (λ z. (refl, disable-work k (found (isEnabled k (flowsOf s)) z)))
       ∙ ap (λ (r : ℕ). decided r s 0 (disabling s k)) (sym same)
     where
       found : (b : Bool) → firstOf {A = ℕ} ((not b, 8) ∷ []) 0 ≡ 0 → b ≡ true

@@ -1,18 +1,11 @@
 -- What is said of a state before any other refusal: 9 'bad size', 12 'unsound book' (document 01, 'Table of refusals' and its order). Assumes nothing.
 use mathlib.Core.Path.{_≡_, refl, sym, ap, _∙_}
-use mathlib.Core.Bool.{Bool, not}
-use mathlib.Core.List.{List, [], _∷_}
+use mathlib.Core.List.{[], _∷_}
 use Prim.Native.Nat.{ℕ}
 use lib.Dec.{eqb}
 use Rattle.refusal.specs.Order.{firstOf}
-use Rattle.state.specs.State.{State, badSize}
-use Rattle.state.specs.Valid.{validOf}
 use Rattle.validity.specs.declared.Judgement.{Judgement}
 use Rattle.validity.specs.declared.Judgement.the-variants.{Usable, BadSize, InvalidState}
-
--- how the order of every call on a state begins
-abbrev pub stateOrder : State → List (Bool × ℕ)
-stateOrder s = (badSize (s .header .containers) (s .storage), 9) ∷ (not (validOf s), 12) ∷ []
 
 -- the paper's number for each case, 0 where there is nothing to refuse
 abbrev pub judgementOf : Judgement → ℕ

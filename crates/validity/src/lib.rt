@@ -8,8 +8,8 @@ ghost use Prim.Native.Nat.{_+_, _*_, _≤_};
 ghost use lib.ListN.{length, take};
 ghost use Rattle.refusal.specs.Order.{firstOf};
 ghost use Rattle.state.specs.State.{shortOf, stateOf};
-ghost use Rattle.state.specs.Valid.{validOf};
-ghost use Rattle.validity.specs.Judge.{judgementOf, stateOrder};
+ghost use Rattle.state.specs.Valid.{validOf, stateOrder};
+ghost use Rattle.validity.specs.Judge.{judgementOf};
 ghost use Rattle.validity.specs.Scan.{policiesValid, containersValid, flowValid, flowsValid, recordsZero};
 
 // What is said of a state. BadSize is the paper's 9, InvalidState its 12, 'unsound book'.
