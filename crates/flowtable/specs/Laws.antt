@@ -2,15 +2,16 @@
 -- of the enabled flows. Assumes nothing.
 use mathlib.Core.Path.{_≡_, refl, sym, ap, ap₂, _∙_}
 use mathlib.Core.Bool.{Bool, true, false, cond, false≢true}
-use mathlib.Core.Logic.{_≢_}
+use mathlib.Core.Logic.{_≢_, by-cases}
 use mathlib.Core.List.{List, [], _∷_, _++_, append-assoc}
-use Prim.Native.Nat.{ℕ, zero, suc, _+_, _-_, _≤_, _<_}
+use Prim.Native.Nat.{ℕ, zero, suc, _+_, _-_, _≤_, _<_, min}
 use native.Mathlib.Nat.{add-zero, not-suc-le-zero, le-of-suc-le-suc, suc-inj}
 use native.Mathlib.Numerals.{add-one}
+use native.Mathlib.Decide.{decLt}
 use native.Mathlib.Omega.{arith}
 use lib.Dec.{eqb, ltb, leb·suc-suc}
 use lib.ListN.{length, getD, set, take, drop, replicate, length-append, length-set, length-take, length-drop, drop-of-length-le}
-use lib.Seq.{drop-cons, getD-take, take-take, take-suc-set, set-split}
+use lib.Seq.{drop-cons, getD-take, take-all, take-take, take-suc-set, set-split}
 use borrow.Table.Steps.{cases}
 use borrow.Author.Tests.{eq-eqb, ne-eqb, eqb-true, ltb-true, lt-ltb, le-ltb, le-leb, lt-leb}
 use Rattle.model.specs.declared.Flow.{Flow}
@@ -198,3 +199,12 @@ removed k j count table h l e r t =
       take-take (placeOf k (take count table)) count table (omega (arith, length-take count table)),
       removed-in (placeOf k (take count table)) count table below,
     )
+
+-- in a table of at most m records no more than m are in use
+pub removed-within : (m place count : ℕ) (table : List Flow) → length table ≤ m → removedAt place count table ≡ removedAt place (min m count) table
+unfolding removedAt
+removed-within m place count table h =
+    by-cases (decLt count m)
+    (λ l. let e : min m count ≡ count = omega (arith, l) in ap (λ (c : ℕ). removedAt place c table) (sym e))
+    (λ l. let e : min m count ≡ m = omega (arith, l) in
+    rw (e, take-all count table (omega (arith, h, l)), take-all m table h, drop-of-length-le table {i = count} (omega (arith, h, l)), drop-of-length-le table {i = m} h) refl)

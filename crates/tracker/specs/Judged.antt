@@ -9,11 +9,10 @@ use Rattle.refusal.specs.Order.{firstOf}
 use Rattle.model.specs.declared.Flow.{Flow}
 use Rattle.tagset.specs.Set.{singleOf}
 use Rattle.state.specs.State.{Storage, State, shortOf, badSize, storageOf, withSets, noFlow, withFlows}
-use Rattle.state.specs.Valid.{validOf}
+use Rattle.state.specs.Valid.{validOf, stateOrder}
 use Rattle.state.specs.IsValid.{IsSized, sized, bad-size-short, valid, Usable}
 use Rattle.tagstore.specs.Store.{zeroFront}
 use Rattle.tagstore.specs.Starting.{zero-front, own-all}
-use Rattle.state.specs.Valid.{stateOrder}
 use Rattle.tracker.specs.Replies.{refused, givenBack, leftBy}
 use Rattle.outcome.specs.Outcome.{Outcome, decided, noHeader, started, startOrder, startOf, enableLater, enableOrder, enableOf, disableLater, disableOrder, disableOf}
 use Rattle.tracker.specs.declared.Reply.the-variants.{Accepted}

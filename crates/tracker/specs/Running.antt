@@ -4,16 +4,16 @@ use mathlib.Core.Path.{_≡_, refl, sym, ap, _∙_, subst}
 use mathlib.Core.List.{List, [], _∷_, _++_, append-assoc, append-nil}
 use mathlib.Core.Logic.{_↔_, _≢_}
 use Prim.Native.Nat.{ℕ, zero, suc, _+_}
+use native.Mathlib.Omega.{arith}
 use Rattle.model.specs.declared.Flow.{Flow}
 use Rattle.model.specs.Model.{Event, enable, disable, without}
 use Rattle.state.specs.State.{Storage, State, stateOf, flowsOf}
 use Rattle.state.specs.Layout.{Fit64}
 use Rattle.state.specs.IsValid.{IsValid, Usable}
-use native.Mathlib.Omega.{arith}
+use Rattle.tagstore.specs.Store.{totalOf}
 use Rattle.tracker.specs.declared.Answered.{Answered}
 use Rattle.tracker.specs.declared.Reply.{Reply}
 use Rattle.tracker.specs.declared.Reply.the-variants.{Accepted, NoSuchContainer, SelfFlow, StaleNumber, TableFull, NotEnabled, BadSize, InvalidState}
-use Rattle.tagstore.specs.Store.{totalOf}
 use Rattle.tracker.specs.Replies.{answerOf, givenBack, leftBy}
 use Rattle.outcome.specs.Outcome.{Outcome, noHeader, startOf, gainOf, enableOf, disableOf, Call, ask, outcomeOf, after}
 use Rattle.outcome.specs.Refusals.{start-refused, call-refused, call-cases}

@@ -1,7 +1,7 @@
 -- Events on a state that is not judged: what `apply_enable` and `apply_disable` do, for every content of the storage. On a usable state their outcome
 -- is that of the public calls (laws `apply-enable`, `apply-disable` of UnjudgedLaws.antt). Assumes nothing.
 use mathlib.Core.List.{List}
-use Prim.Native.Nat.{ℕ, _+_, _-_}
+use Prim.Native.Nat.{ℕ, _+_, _-_, min}
 use lib.ListN.{set, take}
 use Rattle.refusal.specs.Order.{firstOf}
 use Rattle.model.specs.declared.Flow.{Flow}
@@ -24,8 +24,8 @@ applyEnableOf s f =
     decided (firstOf (enableLater s f) 0) s (pairsAdded n (carrying s f) (s .storage .tags))
     (stored s (s .header .count + 1) (appendedTo s f) (f .number) (setsAfter n (carrying s f) (s .storage .tags)))
 
--- disabling where neither 9 nor 12 is judged
+-- disabling where neither 9 nor 12 is judged; records past the 512th stay
 unfoldable pub applyDisableOf : State → ℕ → Outcome
 applyDisableOf s k =
     decided (firstOf (disableLater s k) 0) s 0
-    (stored s (s .header .count - 1) (removedAt (placeOf k (flowsOf s)) (s .header .count) (s .storage .flows)) (s .header .greatest) (s .storage .tags))
+    (stored s (s .header .count - 1) (removedAt (placeOf k (flowsOf s)) (min 512 (s .header .count)) (s .storage .flows)) (s .header .greatest) (s .storage .tags))

@@ -5,14 +5,14 @@ use mathlib.Core.List.{List, [], _∷_}
 use mathlib.Core.Logic.{_≢_}
 use Prim.Native.Nat.{ℕ, zero, suc, _+_, _-_, _≤_, _<_}
 use native.Mathlib.Omega.{arith}
-use lib.ListN.{set, take}
+use lib.ListN.{length, set, take}
 use borrow.Author.Tests.{le-leb, lt-leb, eq-eqb, ne-eqb}
 use Rattle.refusal.specs.Order.{firstOf}
 use Rattle.model.specs.declared.Flow.{Flow}
 use Rattle.model.specs.Model.{isEnabled}
 use Rattle.state.specs.State.{State, flowsOf}
 use Rattle.flowtable.specs.FlowTable.{foundIn, removedAt}
-use Rattle.flowtable.specs.Laws.{found-absent, found-place}
+use Rattle.flowtable.specs.Laws.{found-absent, found-place, removed-within}
 use Rattle.flowtable.specs.declared.Found.the-variants.{At, Absent}
 use Rattle.propagation.specs.Pass.{setsAfter, pairsAdded}
 use Rattle.tracker.specs.declared.Answered.{Answered}
@@ -99,8 +99,11 @@ module _ (s : State) (k : ℕ) where
       some (suc n) fs e = omega arith
 
   -- the work
-  pub disables : {place : ℕ} {table : List Flow} → At place ≡ foundIn k (flowsOf s) → table ≡ removedAt place (s .header .count) (s .storage .flows)
+  pub disables : {place : ℕ} {table : List Flow} → length (s .storage .flows) ≡ 512 → At place ≡ foundIn k (flowsOf s)
+      → table ≡ removedAt place (s .header .count) (s .storage .flows)
       → leftBy (givenBack (Accepted 0) (record { containers = s .header .containers; count = s .header .count - 1; greatest = s .header .greatest }) table) (s .storage .tags) (s .storage .policies) (s .storage .policyCounts)
       ≡ applyDisableOf s k
   unfolding applyDisableOf disableLater decided
-  disables a p = let e = found-place k (flowsOf s) a in rw (e .0, p, e .1) refl
+  disables {place} long a p =
+      let e = found-place k (flowsOf s) a in
+      rw (e .0, p ∙ removed-within 512 place (s .header .count) (s .storage .flows) (omega (arith, long)), e .1) refl

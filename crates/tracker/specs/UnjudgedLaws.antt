@@ -4,7 +4,7 @@ use mathlib.Core.Path.{_≡_, refl, sym, ap, ap₂, _∙_, subst}
 use mathlib.Core.Bool.{Bool, true, false, not}
 use mathlib.Core.Logic.{_↔_}
 use mathlib.Core.List.{List, [], _∷_, _++_}
-use Prim.Native.Nat.{ℕ, zero, suc, _+_, _-_, _*_, _≤_, _<_}
+use Prim.Native.Nat.{ℕ, zero, suc, _+_, _-_, _*_, _≤_, _<_, min}
 use native.Mathlib.Omega.{arith}
 use lib.ListN.{length, length-append}
 use Rattle.truth.specs.Truth.{iff}
@@ -15,13 +15,13 @@ use Rattle.model.specs.Closure.{Within}
 use Rattle.tagset.specs.Set.{has}
 use Rattle.tagset.specs.Laws.{ext, subset-of-has}
 use Rattle.state.specs.State.{State, setAt, flowsOf, withFlows}
+use Rattle.state.specs.Valid.{stateOrder}
 use Rattle.state.specs.Layout.{Fit64, set-fits}
 use Rattle.state.specs.IsValid.{sized, valid, Usable}
 use Rattle.tagstore.specs.Store.{totalOf}
 use Rattle.tagstore.specs.Laws.{words-ext}
 use Rattle.flowtable.specs.FlowTable.{placeOf, removedAt}
 use Rattle.flowtable.specs.Laws.{appended, appended-flows, without-count, removed}
-use Rattle.state.specs.Valid.{stateOrder}
 use Rattle.propagation.specs.Exact.{passed-length, passed-beyond, passed-fits, exact, after-is, pairs-total}
 use Rattle.propagation.specs.Pass.{passesOf, passed, setsAfter, pairsAdded}
 use Rattle.outcome.specs.Outcome.{decided, stored, propagated, gainOf, changed, enabling, disabling, enableLater, enableOrder, enableOf, disableLater, disableOrder, disableOf, outcomeOf}
@@ -155,7 +155,7 @@ module _ (s : State) (u : Usable s) where
 
   -- a disable that is accepted leaves the same
   disable-work : (k : ℕ) → isEnabled k (flowsOf s) ≡ true
-      → stored s (s .header .count - 1) (removedAt (placeOf k (flowsOf s)) (s .header .count) (s .storage .flows)) (s .header .greatest) (s .storage .tags) ≡ disabling s k
+      → stored s (s .header .count - 1) (removedAt (placeOf k (flowsOf s)) (min 512 (s .header .count)) (s .storage .flows)) (s .header .greatest) (s .storage .tags) ≡ disabling s k
   unfolding disabling changed
   disable-work k h = λ i.
       record {
@@ -166,8 +166,11 @@ module _ (s : State) (u : Usable s) where
       count : s .header .count - 1 ≡ length (without k (flowsOf s))
       count = omega (arith, without-count k 0 (flowsOf s) (u .valid .rising) h, usable-count s u)
 
-      table : removedAt (placeOf k (flowsOf s)) (s .header .count) (s .storage .flows) ≡ withFlows (without k (flowsOf s)) (s .storage .flows)
-      table = sym (unfold flowsOf in removed k 0 (s .header .count) (s .storage .flows) (u .valid .table-count) (u .sized .records) (u .valid .unused-flows) (u .valid .rising) h)
+      few : min 512 (s .header .count) ≡ s .header .count
+      few = omega (arith, u .valid .table-count)
+
+      table : removedAt (placeOf k (flowsOf s)) (min 512 (s .header .count)) (s .storage .flows) ≡ withFlows (without k (flowsOf s)) (s .storage .flows)
+      table = ap (λ (c : ℕ). removedAt (placeOf k (flowsOf s)) c (s .storage .flows)) few ∙ sym (unfold flowsOf in removed k 0 (s .header .count) (s .storage .flows) (u .valid .table-count) (u .sized .records) (u .valid .unused-flows) (u .valid .rising) h)
 
   -- DISABLE: the outcome is the public one
   pub apply-disable : (k : ℕ) → applyDisableOf s k ≡ disableOf s k

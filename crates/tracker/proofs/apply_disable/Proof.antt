@@ -1,7 +1,8 @@
 -- A flow that is not found is refused; one that is found is removed from its place. Assumes nothing.
-use mathlib.Core.Path.{sym, _∙_}
+use mathlib.Core.Path.{_≡_, sym, _∙_}
 use mathlib.Core.List.{List, []}
 use Prim.Native.Nat.{ℕ}
+use lib.ListN.{length}
 use borrow.Author.Needs.{needs}
 use Rattle.state.specs.State.{State, stateOf, flowsOf}
 use Rattle.tracker.specs.UnjudgedBranches.{left-refused, not-enabled, some-enabled, disables}
@@ -11,6 +12,10 @@ use Rattle.tracker.proofs.apply_disable.Tie as tie
 -- the state that the call is given, for any tag sets and policy sets
 abbrev at : tie.Start → List ℕ → List ℕ → List ℕ → State
 at c tags policies counts = stateOf (c .args .header) tags policies counts (c .args .flows)
+
+-- the table has 512 records
+long : (c : tie.Start) → length (c .args .flows) ≡ 512
+long c = search needs
 
 find-requires : tie.Need-find-requires
 find-requires c κs = search needs
@@ -48,7 +53,7 @@ returns-2 c =
     let f = c .before .before .before .before .before in
     let x = f .before in
     λ tags policies counts.
-    disables (at x tags policies counts) (x .args .number) (sym (c .before .before .before .found .given .1) ∙ f .find .ensures) (c .remove .ensures)
+    disables (at x tags policies counts) (x .args .number) (long x) (sym (c .before .before .before .found .given .1) ∙ f .find .ensures) (c .remove .ensures)
 
 pub apply-disable-spec : {M : Type 1} → statement M
 apply-disable-spec =
