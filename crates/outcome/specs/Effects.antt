@@ -8,7 +8,8 @@ use native.Mathlib.Omega.{arith}
 use lib.ListN.{length, drop, length-append}
 use Rattle.refusal.specs.Order.{firstOf}
 use Rattle.model.specs.declared.Flow.{Flow}
-use Rattle.model.specs.Model.{Event, enable, disable, without}
+use Rattle.model.specs.Model.{enable, disable, without}
+use Rattle.tagset.specs.declared.TagSet.{TagSet}
 use Rattle.tagset.specs.Set.{has, singleOf, subsetOf}
 use Rattle.tagset.specs.Laws.{single-words, size-subset, subset-of-has, subset-refl}
 use Rattle.tagset.specs.Below.{count-none}
@@ -16,10 +17,11 @@ use Rattle.state.specs.State.{Storage, State, setAt, flowsOf}
 use Rattle.state.specs.Layout.{Fit64, sets-fit, sets-length, sets-beyond, front-length, front-beyond, flows-length, flows-beyond}
 use Rattle.state.specs.IsValid.{IsSized, Usable}
 use Rattle.tagstore.specs.Store.{totalOf}
-use Rattle.outcome.specs.Outcome.{decided, noHeader, startOrder, started, startOf, propagated, gainOf, changed, enabling, disabling, enableOrder, enableOf, disableOrder, disableOf, Call, ask, outcomeOf, after}
+use Rattle.outcome.specs.Outcome.{decided, noHeader, startOrder, started, startOf, propagated, gainOf, changed, enabling, disabling, enableOrder, enableOf, disableOrder, disableOf, addOrder, adding, addOf, Call, ask, add, outcomeOf, after}
 use Rattle.outcome.specs.Refusals.{start-cases, call-cases}
 use Rattle.outcome.specs.Propagation.{propagated-fits}
 use Rattle.outcome.specs.Stays.{usable-count, without-length, propagated-length}
+use Rattle.outcome.specs.Policies.{add-accepted, add-leaves, adding-beyond, adding-lengths}
 use Rattle.outcome.specs.Steps.{Sentence, enable-sentence, start-accepted, enable-accepted, disable-accepted, start-leaves, enable-leaves, disable-leaves}
 
 -- two storages have the same lengths, and the same content past those that n containers use
@@ -108,7 +110,7 @@ changed-beyond s fs greatest tags u few same beyond =
 
 -- so is the state that a call leaves
 pub call-beyond : (s : State) (c : Call) → SameBeyond (s .header .containers) (outcomeOf s c .state .storage) (s .storage)
-unfolding enabling disabling
+unfolding outcomeOf enabling disabling adding
 call-beyond s c = call-cases (λ x. SameBeyond (s .header .containers) (x .storage) (s .storage)) s c (accepted c) (beyond-refl (s .header .containers) (s .storage))
   where
     accepted : (c : Call) → outcomeOf s c .answer .refusal ≡ 0 → SameBeyond (s .header .containers) (outcomeOf s c .state .storage) (s .storage)
@@ -124,6 +126,21 @@ call-beyond s c = call-cases (λ x. SameBeyond (s .header .containers) (x .stora
         rw (disable-leaves s k a)
         (changed-beyond s (without k (flowsOf s)) (s .header .greatest) (s .storage .tags) u
         (omega (arith, without-length k (flowsOf s), usable-count s u, u .valid .table-count)) refl refl)
+    accepted (add d p) a =
+        let e = add-accepted s d p .0 a in
+        let long = adding-lengths s d p e in
+        let past = adding-beyond s d p e in
+        rw (add-leaves s d p a)
+        (record {
+          tag-words = refl;
+          policy-words = long .0;
+          count-bytes = long .1;
+          records = refl;
+          tags-beyond = refl;
+          policies-beyond = past .0;
+          counts-beyond = past .1;
+          flows-beyond = refl;
+        })
 
 -- what the work keeps, the outcome keeps
 decided-keeps : {A : Type 0} (get : State → A) (r : ℕ) (s : State) (gain : ℕ) (s' : State) → get s' ≡ get s → get (decided r s gain s' .state) ≡ get s
@@ -132,18 +149,19 @@ decided-keeps get zero s gain s' e = e
 decided-keeps get (suc k) s gain s' e = refl
 
 -- n stays
-pub event-containers : (s : State) (e : Event) → outcomeOf s (ask e) .state .header .containers ≡ s .header .containers
-unfolding outcomeOf enableOf disableOf enabling disabling changed
-event-containers s (enable f) = decided-keeps (λ s. s .header .containers) (firstOf (enableOrder s f) 0) s _ _ refl
-event-containers s (disable k) = decided-keeps (λ s. s .header .containers) (firstOf (disableOrder s k) 0) s _ _ refl
+pub call-containers : (s : State) (c : Call) → outcomeOf s c .state .header .containers ≡ s .header .containers
+unfolding outcomeOf enableOf disableOf addOf enabling disabling changed adding
+call-containers s (ask (enable f)) = decided-keeps (λ s. s .header .containers) (firstOf (enableOrder s f) 0) s _ _ refl
+call-containers s (ask (disable k)) = decided-keeps (λ s. s .header .containers) (firstOf (disableOrder s k) 0) s _ _ refl
+call-containers s (add c p) = decided-keeps (λ s. s .header .containers) (firstOf (addOrder s c p) 0) s _ _ refl
 
 -- over a list of calls the storage past the lengths in use stays too
 calls-beyond : (cs : List Call) (s : State) → SameBeyond (s .header .containers) (after s cs .storage) (s .storage)
 unfolding after
 calls-beyond [] s = beyond-refl (s .header .containers) (s .storage)
-calls-beyond (ask e ∷ cs) s =
-    let s' = outcomeOf s (ask e) .state in
-    beyond-trans (subst (λ (n : ℕ). SameBeyond n (after s' cs .storage) (s' .storage)) (event-containers s e) (calls-beyond cs s')) (call-beyond s (ask e))
+calls-beyond (c ∷ cs) s =
+    let s' = outcomeOf s c .state in
+    beyond-trans (subst (λ (n : ℕ). SameBeyond n (after s' cs .storage) (s' .storage)) (call-containers s c) (calls-beyond cs s')) (call-beyond s c)
 
 -- so it is from before starting
 pub list-beyond : (n : ℕ) (lent : Storage) → startOf n lent .answer .refusal ≡ 0 → (cs : List Call) → SameBeyond n (after (startOf n lent .state) cs .storage) lent
@@ -157,6 +175,11 @@ list-beyond n lent a cs =
 pub disable-tags : (s : State) (k : ℕ) → outcomeOf s (ask (disable k)) .state .storage .tags ≡ s .storage .tags
 unfolding outcomeOf disableOf disabling changed
 disable-tags s k = decided-keeps (λ s. s .storage .tags) (firstOf (disableOrder s k) 0) s _ _ refl
+
+-- so does adding a policy set, and it leaves every record of the flow table
+pub add-tags : (s : State) (c : ℕ) (p : TagSet) → addOf s c p .state .storage .tags ≡ s .storage .tags
+unfolding addOf adding
+add-tags s c p = decided-keeps (λ s. s .storage .tags) (firstOf (addOrder s c p) 0) s _ _ refl
 
 -- THE GAIN
 
@@ -188,9 +211,10 @@ decided-gain (suc k) s gain s' e = sym (gain-same (s .header .containers) (s .st
 
 -- every call's gain is the count of the pairs that are stored after it and were not before
 pub gain-counted : (s : State) (c : Call) → outcomeOf s c .answer .gain ≡ gainOf (s .header .containers) (s .storage .tags) (outcomeOf s c .state .storage .tags)
-unfolding outcomeOf enableOf disableOf disabling changed
+unfolding outcomeOf enableOf disableOf addOf disabling changed adding
 gain-counted s (ask (enable f)) = decided-gain (firstOf (enableOrder s f) 0) s _ _ refl
 gain-counted s (ask (disable k)) = decided-gain (firstOf (disableOrder s k) 0) s 0 _ (sym (gain-same (s .header .containers) (s .storage .tags)))
+gain-counted s (add c p) = decided-gain (firstOf (addOrder s c p) 0) s 0 _ (sym (gain-same (s .header .containers) (s .storage .tags)))
 
 -- after an event of which the general sentence holds no set has lost a tag
 sentence-grows : (s s' : State) → Sentence s s' → (c : ℕ) → c < s .header .containers → subsetOf (setAt (s .storage .tags) c) (setAt (s' .storage .tags) c) ≡ true
@@ -213,6 +237,11 @@ enable-gain s f =
 pub disable-gain : (s : State) (k : ℕ) → outcomeOf s (ask (disable k)) .answer .gain ≡ 0
 disable-gain s k = gain-counted s (ask (disable k)) ∙ rw (disable-tags s k) (gain-same (s .header .containers) (s .storage .tags))
 
+-- so does adding a policy set
+pub add-gain : (s : State) (c : ℕ) (p : TagSet) → addOf s c p .answer .gain ≡ 0
+unfolding outcomeOf
+add-gain s c p = gain-counted s (add c p) ∙ rw (add-tags s c p) (gain-same (s .header .containers) (s .storage .tags))
+
 -- a start gains 0
 pub start-gains-nothing : (n : ℕ) (lent : Storage) → startOf n lent .answer .gain ≡ 0
 unfolding startOf
@@ -232,8 +261,9 @@ start-fits n lent h =
 
 -- and after every call
 pub call-fits : (s : State) (c : Call) → Fit64 (s .storage .tags) → Fit64 (outcomeOf s c .state .storage .tags)
-unfolding enabling changed
+unfolding outcomeOf enabling changed
 call-fits s (ask (enable f)) h =
     call-cases (λ x. Fit64 (x .storage .tags)) s (ask (enable f))
     (λ a. rw (enable-leaves s f a) (propagated-fits (s .header .containers) (flowsOf s ++ (f ∷ [])) (s .storage .tags) h)) h
 call-fits s (ask (disable k)) h = rw (disable-tags s k) h
+call-fits s (add c p) h = rw (add-tags s c p) h

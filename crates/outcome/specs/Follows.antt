@@ -1,5 +1,5 @@
 -- The tracker follows the accepted history: after each call its flows, its greatest number and its sets are those of the history. Assumes nothing.
-use mathlib.Core.Path.{_≡_, refl, sym, ap, _∙_, subst}
+use mathlib.Core.Path.{_≡_, refl, sym, ap, ap₂, _∙_, subst}
 use mathlib.Core.Bool.{true, false≢true}
 use mathlib.Core.List.{List, [], _∷_, _++_}
 use mathlib.Core.Logic.{_↔_, Iff·rfl}
@@ -7,7 +7,7 @@ use mathlib.Mathlib.Logic.Relation.{ReflTransGenᴰ}
 use Prim.Native.Nat.{ℕ, _<_}
 use native.Mathlib.Omega.{arith}
 use lib.Dec.{eqb}
-use lib.ListN.{length}
+use lib.ListN.{length, take}
 use borrow.Table.Steps.{cases}
 use borrow.Author.Tests.{eqb-true, eq-eqb}
 use Rattle.truth.specs.Truth.{and-iff, lt-iff}
@@ -15,15 +15,17 @@ use Rattle.model.specs.declared.Flow.{Flow}
 use Rattle.model.specs.Model.{_∈_, Event, enable, disable, History, empty, _▸_, without, enabled, edgesOf, Flows, greatest, joins, joined, acceptedFrom}
 use Rattle.model.specs.Closure.{Within, reached-inside}
 use Rattle.model.specs.Histories.{flows-empty, flows-next, MayEnable, enable-joins, disable-joins, joins-added, not-joins-same}
+use Rattle.tagset.specs.declared.TagSet.{TagSet}
 use Rattle.tagset.specs.Set.{has}
+use Rattle.state.specs.declared.Header.{Header}
 use Rattle.state.specs.State.{Storage, State, setAt, flowsOf}
 use Rattle.state.specs.IsValid.{IsSized, Usable}
-use Rattle.outcome.specs.Outcome.{started, startOf, Call, ask, outcomeOf, eventsOf, after, configurationOf}
+use Rattle.outcome.specs.Outcome.{started, startOf, addOf, Call, ask, add, outcomeOf, eventsOf, after, configurationOf}
 use Rattle.outcome.specs.Refusals.{call-cases}
 use Rattle.outcome.specs.Table.{Enables}
 use Rattle.outcome.specs.Stays.{usable-count, started-has, start-usable, flows-within}
-use Rattle.outcome.specs.Steps.{start-accepted, enable-accepted, disable-accepted, start-leaves, event-leaves-usable, Sentence, enable-sentence, disable-sentence, enable-flows, disable-flows}
-use Rattle.outcome.specs.Effects.{event-containers}
+use Rattle.outcome.specs.Steps.{start-accepted, enable-accepted, disable-accepted, start-leaves, call-leaves-usable, Sentence, enable-sentence, disable-sentence, enable-flows, disable-flows, add-so}
+use Rattle.outcome.specs.Effects.{call-containers}
 
 -- the state is what the history makes of n containers
 pub record Follows (n : ℕ) (h : History) (s : State) : Type 0 where
@@ -105,7 +107,7 @@ module _ (h : History) (s : State) where
       s' = outcomeOf s (ask e) .state
 
       size : s' .header .containers ≡ n
-      size = event-containers s e
+      size = call-containers s (ask e)
 
       within : Within n (edgesOf (flowsOf s'))
       within = subst (λ (m : ℕ). Within m (edgesOf (flowsOf s'))) size (flows-within s' (u .valid))
@@ -130,12 +132,12 @@ module _ (h : History) (s : State) where
   event-joins (enable f) w j =
       let a = accepted-joins n h s (enable f) w .1 j in
       let r = enable-flows s f a in
-      event-follows (enable f) w (event-leaves-usable s (enable f) a) (enable-sentence s f a)
+      event-follows (enable f) w (call-leaves-usable s (ask (enable f)) a) (enable-sentence s f a)
       (r .flows ∙ ap (λ (fs : List Flow). fs ++ (f ∷ [])) (w .same-flows)) (r .greatest-is)
   event-joins (disable k) w j =
       let a = accepted-joins n h s (disable k) w .1 j in
       let r = disable-flows s k a in
-      event-follows (disable k) w (event-leaves-usable s (disable k) a) (disable-sentence s k a)
+      event-follows (disable k) w (call-leaves-usable s (ask (disable k)) a) (disable-sentence s k a)
       (r .flows ∙ ap (without k) (w .same-flows)) (r .greatest-is ∙ w .same-greatest)
 
 -- the state after a call follows the history after it, whether its event joins or not
@@ -146,11 +148,31 @@ call-follows n h s e w =
     (λ j. rw (not-joins-same n h e j)
     (call-cases (λ x. Follows n h x) s (ask e) (λ a. absurd (false≢true (sym j ∙ accepted-joins n h s e w .0 a))) w))
 
+-- adding a policy set changes nothing of it
+add-follows : (n : ℕ) (h : History) (s : State) (c : ℕ) (p : TagSet) → Follows n h s → Follows n h (outcomeOf s (add c p) .state)
+unfolding outcomeOf
+add-follows n h s c p w =
+    call-cases (Follows n h) s (add c p)
+    (λ a.
+    let v = add-so s c p a in
+    record {
+      size = ap (λ (x : Header). x .containers) (v .header) ∙ w .size;
+      usable = call-leaves-usable s (add c p) a;
+      same-flows = unfold flowsOf in ap₂ (λ (x : Header) (fs : List Flow). take (x .count) fs) (v .header) (v .flows) ∙ w .same-flows;
+      same-greatest = ap (λ (x : Header). x .greatest) (v .header) ∙ w .same-greatest;
+      sets =
+          λ x t.
+          let same : configurationOf (addOf s c p .state) x t ≡ configurationOf s x t = unfold configurationOf in rw (v .header, v .tags) refl in
+          rw same (w .sets x t);
+    })
+    w
+
 -- and so after a list of calls
 pub calls-follow : (n : ℕ) (cs : List Call) (h : History) (s : State) → Follows n h s → Follows n (acceptedFrom n h (eventsOf cs)) (after s cs)
 unfolding acceptedFrom eventsOf after
 calls-follow n [] h s w = w
 calls-follow n (ask e ∷ cs) h s w = calls-follow n cs (joined n h e) (outcomeOf s (ask e) .state) (call-follows n h s e w)
+calls-follow n (add c p ∷ cs) h s w = calls-follow n cs h (outcomeOf s (add c p) .state) (add-follows n h s c p w)
 
 -- the state that an accepted start leaves follows the empty history
 pub begun-follows : (n : ℕ) (lent : Storage) → startOf n lent .answer .refusal ≡ 0 → Follows n empty (startOf n lent .state)

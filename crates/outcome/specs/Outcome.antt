@@ -3,16 +3,17 @@ use mathlib.Core.Bool.{Bool, _&&_, not, cond}
 use mathlib.Core.List.{List, [], _∷_, _++_}
 use Prim.Native.Nat.{ℕ, zero, suc, _+_, _*_}
 use lib.Dec.{leb, ltb, eqb}
-use lib.ListN.{length, drop, replicate}
+use lib.ListN.{length, getD, set, drop, replicate}
 use Rattle.refusal.specs.Order.{firstOf}
 use Rattle.model.specs.declared.Flow.{Flow}
 use Rattle.model.specs.Model.{Event, enable, disable, Configuration, edgesOf, without, isEnabled}
 use Rattle.model.specs.Reach.{reachable, cell}
 use Rattle.tagset.specs.declared.TagSet.{TagSet}
-use Rattle.tagset.specs.Set.{has, emptySet, singleOf, unionOf, countBelow}
+use Rattle.tagset.specs.Set.{has, emptySet, singleOf, unionOf, exceedsOf, countBelow}
 use Rattle.state.specs.declared.Header.{Header}
 use Rattle.state.specs.State.{Storage, State, badSize, setAt, withSets, flowsOf, withFlows}
 use Rattle.state.specs.Valid.{stateOrder}
+use Rattle.tagstore.specs.Store.{putSet}
 
 -- the refusal's number, 0 where the call is accepted, and the gain
 pub record Answer : Type 0 where
@@ -126,25 +127,63 @@ disabling s k = changed s (without k (flowsOf s)) (s .header .greatest) (s .stor
 unfoldable pub disableOf : State → ℕ → Outcome
 disableOf s k = decided (firstOf (disableOrder s k) 0) s 0 (disabling s k)
 
+-- ADDING A POLICY SET (document 01: a permitted set)
+
+-- how many policy sets a container has
+abbrev pub policyCount : State → ℕ → ℕ
+policyCount s c = getD (s .storage .policyCounts) c 0
+
+-- 'Adding a set: 9, 12, 4 for the holder, 4 for the set, 11'
+unfoldable pub addLater : State → ℕ → TagSet → List (Bool × ℕ)
+addLater s c p =
+    (leb (s .header .containers) c, 4)
+    ∷ (exceedsOf p (s .header .containers), 4)
+    ∷ (leb 4 (policyCount s c), 11) ∷ []
+
+unfoldable pub addOrder : State → ℕ → TagSet → List (Bool × ℕ)
+addOrder s c p = stateOrder s ++ addLater s c p
+
+-- the state after: the set stands behind those that the container has ('in the order of adding'), so set k at words 16c + 4k to 16c + 4k + 3
+unfoldable pub adding : State → ℕ → TagSet → State
+adding s c p =
+    record {
+      header = s .header;
+      storage =
+          record {
+            tags = s .storage .tags;
+            policies = putSet (s .storage .policies) (4 * c + policyCount s c) p;
+            policyCounts = set (s .storage .policyCounts) c (policyCount s c + 1);
+            flows = s .storage .flows;
+          };
+    }
+
+-- adding a policy set to a container; it is no event, and gains nothing
+unfoldable pub addOf : State → ℕ → TagSet → Outcome
+addOf s c p = decided (firstOf (addOrder s c p) 0) s 0 (adding s c p)
+
 -- LISTS OF CALLS
 
--- a call asks for an event, with any arguments; adding a policy set, which is no event, will be another case
+-- a call asks for an event, or adds a policy set to a container, with any arguments
 pub data Call : Type 0 where
   ask : Event → Call
+  add : ℕ → TagSet → Call
 
 -- the order of its refusals, and its outcome
 unfoldable pub orderOf : State → Call → List (Bool × ℕ)
 orderOf s (ask (enable f)) = enableOrder s f
 orderOf s (ask (disable k)) = disableOrder s k
+orderOf s (add c p) = addOrder s c p
 
 unfoldable pub outcomeOf : State → Call → Outcome
 outcomeOf s (ask (enable f)) = enableOf s f
 outcomeOf s (ask (disable k)) = disableOf s k
+outcomeOf s (add c p) = addOf s c p
 
--- the events that the calls ask for
+-- the events that the calls ask for: 'adding a set [..] is no event'
 unfoldable pub eventsOf : List Call → List Event
 eventsOf [] = []
 eventsOf (ask e ∷ cs) = e ∷ eventsOf cs
+eventsOf (add c p ∷ cs) = eventsOf cs
 
 -- the state after the calls: 'each call gets the storage and the small numbers as the call before left and answered them, refused or not'
 unfoldable pub after : State → List Call → State

@@ -1,22 +1,14 @@
 -- A refused call changes nothing, and the refusal answered is the first whose condition holds. Assumes nothing.
-use mathlib.Core.Path.{_≡_, refl, sym, _∙_}
+use mathlib.Core.Path.{_≡_, refl, sym}
 use mathlib.Core.Bool.{Bool}
-use mathlib.Core.Logic.{_⊎_, inl, inr, _↔_}
+use mathlib.Core.Logic.{_↔_}
 use mathlib.Core.List.{List}
 use Prim.Native.Nat.{ℕ, zero, suc}
 use native.Mathlib.Nat.{suc-ne-zero}
-use Rattle.refusal.specs.Order.{firstOf, NoneHolds, IsFirst, first-is, first-none, first-cases}
+use Rattle.refusal.specs.Order.{firstOf, IsFirst, first-number}
 use Rattle.model.specs.Model.{enable, disable}
 use Rattle.state.specs.State.{Storage, State}
-use Rattle.outcome.specs.Outcome.{decided, noHeader, startOrder, started, startOf, enableOf, disableOf, Call, ask, outcomeOf, orderOf}
-
--- a number is answered exactly if it stands beside the first condition that holds
-first-number : (cs : List (Bool × ℕ)) (k : ℕ) → (firstOf cs 0 ≡ suc k) ↔ IsFirst cs (suc k)
-first-number cs k = (λ e. pick e (first-cases cs 0), λ h. first-is cs 0 h)
-  where
-    pick : firstOf cs 0 ≡ suc k → NoneHolds cs ⊎ IsFirst cs (firstOf cs 0) → IsFirst cs (suc k)
-    pick e (inl none) = absurd (suc-ne-zero k (sym e ∙ first-none cs 0 none))
-    pick e (inr h) = rw e at h
+use Rattle.outcome.specs.Outcome.{decided, noHeader, startOrder, started, startOf, enableOf, disableOf, addOf, Call, ask, add, outcomeOf, orderOf}
 
 -- the outcome has the number that was decided on
 pub decided-number : (r : ℕ) (s : State) (gain : ℕ) (s' : State) → decided r s gain s' .answer .refusal ≡ r
@@ -45,9 +37,10 @@ decided-done (suc r) s gain s' e = absurd (suc-ne-zero r e)
 
 -- every outcome is decided by the call's order
 outcome-decided : (s : State) (c : Call) → (gain : ℕ) × (s' : State) × (outcomeOf s c ≡ decided (firstOf (orderOf s c) 0) s gain s')
-unfolding outcomeOf orderOf enableOf disableOf
+unfolding outcomeOf orderOf enableOf disableOf addOf
 outcome-decided s (ask (enable f)) = (_, _, refl)
 outcome-decided s (ask (disable k)) = (_, _, refl)
+outcome-decided s (add c p) = (_, _, refl)
 
 -- REFUSAL k is answered exactly if its condition holds and none before it in the order does
 pub start-refusal : (n : ℕ) (lent : Storage) (k : ℕ) → (startOf n lent .answer .refusal ≡ suc k) ↔ IsFirst (startOrder n lent) (suc k)

@@ -13,14 +13,16 @@ use Rattle.model.specs.declared.Flow.{Flow}
 use Rattle.model.specs.Model.{_∈_, Event, enable, disable, without, edgesOf}
 use Rattle.model.specs.Closure.{Within, reaches-sound, reaches-complete}
 use Rattle.model.specs.Standing.{without-part}
+use Rattle.tagset.specs.declared.TagSet.{TagSet}
 use Rattle.tagset.specs.Set.{has}
 use Rattle.state.specs.State.{Storage, State, setAt, flowsOf, noFlow}
 use Rattle.state.specs.Layout.{front-at}
 use Rattle.state.specs.IsValid.{IsSized, Usable}
-use Rattle.outcome.specs.Outcome.{noHeader, startOrder, started, startOf, propagated, changed, enabling, disabling, enableOrder, enableOf, disableOrder, disableOf, Call, ask, outcomeOf}
+use Rattle.outcome.specs.Outcome.{noHeader, startOrder, started, startOf, propagated, changed, enabling, disabling, enableOrder, enableOf, disableOrder, disableOf, addOf, Call, ask, add, outcomeOf}
 use Rattle.outcome.specs.Refusals.{decided-done, call-cases}
-use Rattle.outcome.specs.Table.{Enables, StartAnswers, start-answers, EnableAnswers, enable-answers, DisableAnswers, disable-answers, bad-size, invalid-state, accepted}
+use Rattle.outcome.specs.Table.{Enables, StartAnswers, start-answers, EnableAnswers, enable-answers, DisableAnswers, disable-answers, AddAnswers, add-answers, bad-size, invalid-state, accepted}
 use Rattle.outcome.specs.Propagation.{propagated-has}
+use Rattle.outcome.specs.Policies.{add-accepted, add-leaves, adding-usable, PolicyAdded, adding-so}
 use Rattle.outcome.specs.Stays.{changed-flows, started-has, start-usable, enable-usable, disable-usable, flows-within, settled}
 
 -- WHICH CALLS ARE ACCEPTED: the rows of the table with number 0
@@ -72,30 +74,39 @@ enable-leaves-usable s f a =
 disable-leaves-usable : (s : State) (k : ℕ) → outcomeOf s (ask (disable k)) .answer .refusal ≡ 0 → Usable (outcomeOf s (ask (disable k)) .state)
 disable-leaves-usable s k a = rw (disable-leaves s k a) (disable-usable s k (disable-accepted s k .0 a .0))
 
-pub event-leaves-usable : (s : State) (e : Event) → outcomeOf s (ask e) .answer .refusal ≡ 0 → Usable (outcomeOf s (ask e) .state)
-event-leaves-usable s (enable f) = enable-leaves-usable s f
-event-leaves-usable s (disable k) = disable-leaves-usable s k
+pub call-leaves-usable : (s : State) (c : Call) → outcomeOf s c .answer .refusal ≡ 0 → Usable (outcomeOf s c .state)
+unfolding outcomeOf
+call-leaves-usable s (ask (enable f)) a = enable-leaves-usable s f a
+call-leaves-usable s (ask (disable k)) a = disable-leaves-usable s k a
+call-leaves-usable s (add c p) a = rw (add-leaves s c p a) (adding-usable s c p (add-accepted s c p .0 a))
 
 -- so what every usable state has, every call keeps
 pub call-keeps : (P : State → Type 0) (s : State) (c : Call) → ((s : State) → Usable s → P s) → P s → P (outcomeOf s c .state)
-call-keeps P s (ask e) f p = call-cases P s (ask e) (λ a. f (outcomeOf s (ask e) .state) (event-leaves-usable s e a)) p
+call-keeps P s c f p = call-cases P s c (λ a. f (outcomeOf s c .state) (call-leaves-usable s c a)) p
 
 -- a usable state is refused with neither 9 nor 12
-pub usable-answers : (s : State) (e : Event) → Usable s → (outcomeOf s (ask e) .answer .refusal ≢ 9) × (outcomeOf s (ask e) .answer .refusal ≢ 12)
+pub usable-answers : (s : State) (c : Call) → Usable s → (outcomeOf s c .answer .refusal ≢ 9) × (outcomeOf s c .answer .refusal ≢ 12)
 unfolding outcomeOf
-usable-answers s (enable f) u = (λ a. short (enable-answers s f 9 .0 a), λ a. wrong (enable-answers s f 12 .0 a))
+usable-answers s (ask (enable f)) u = (λ a. short (enable-answers s f 9 .0 a), λ a. wrong (enable-answers s f 12 .0 a))
   where
     short : EnableAnswers s f 9 → ⊥
     short (bad-size z) = z (u .sized)
 
     wrong : EnableAnswers s f 12 → ⊥
     wrong (invalid-state z v) = v (u .valid)
-usable-answers s (disable k) u = (λ a. short (disable-answers s k 9 .0 a), λ a. wrong (disable-answers s k 12 .0 a))
+usable-answers s (ask (disable k)) u = (λ a. short (disable-answers s k 9 .0 a), λ a. wrong (disable-answers s k 12 .0 a))
   where
     short : DisableAnswers s k 9 → ⊥
     short (bad-size z) = z (u .sized)
 
     wrong : DisableAnswers s k 12 → ⊥
+    wrong (invalid-state z v) = v (u .valid)
+usable-answers s (add c p) u = (λ a. short (add-answers s c p 9 .0 a), λ a. wrong (add-answers s c p 12 .0 a))
+  where
+    short : AddAnswers s c p 9 → ⊥
+    short (bad-size z) = z (u .sized)
+
+    wrong : AddAnswers s c p 12 → ⊥
     wrong (invalid-state z v) = v (u .valid)
 
 -- THE SETS AFTER AN EVENT
@@ -193,3 +204,7 @@ pub disable-flows : (s : State) (k : ℕ) → outcomeOf s (ask (disable k)) .ans
     → FlowsChanged (without k (flowsOf s)) (s .header .greatest) s (outcomeOf s (ask (disable k)) .state)
 unfolding disabling
 disable-flows s k a = rw (disable-leaves s k a) (changed-so s (without k (flowsOf s)) (s .header .greatest) (s .storage .tags))
+
+-- an accepted set stands behind those that the container has
+pub add-so : (s : State) (c : ℕ) (p : TagSet) → addOf s c p .answer .refusal ≡ 0 → PolicyAdded c p s (addOf s c p .state)
+add-so s c p a = rw (add-leaves s c p a) (adding-so s c p (add-accepted s c p .0 a))

@@ -13,10 +13,13 @@ use Rattle.refusal.specs.Order.{firstOf}
 use Rattle.model.specs.declared.Flow.{Flow}
 use Rattle.model.specs.Model.{_∈_, isEnabled}
 use Rattle.model.specs.Standing.{enabled-number, number-enabled}
-use Rattle.state.specs.State.{Storage, State, badSize, flowsOf}
-use Rattle.state.specs.Valid.{validOf}
-use Rattle.state.specs.IsValid.{IsSized, sized, ProperEnds, IsValid, valid, Usable}
-use Rattle.outcome.specs.Outcome.{noHeader, startOrder, started, startOf, enableLater, enableOrder, enabling, enableOf, disableLater, disableOrder, disabling, disableOf}
+use Rattle.tagset.specs.declared.TagSet.{TagSet}
+use Rattle.tagset.specs.Set.{has, exceedsOf}
+use Rattle.tagset.specs.Laws.{exceeds-of-tag, exceeds-tag, not-exceeds, not-exceeds-of-has}
+use Rattle.state.specs.State.{Storage, State, flowsOf}
+use Rattle.state.specs.IsValid.{IsSized, sized, ProperEnds, IsValid, Usable}
+use Rattle.state.specs.Judging.{too-short, size-cases, by-state, short-first, invalid-first, usable-first}
+use Rattle.outcome.specs.Outcome.{noHeader, startOrder, started, startOf, enableLater, enableOrder, enabling, enableOf, disableLater, disableOrder, disabling, disableOf, policyCount, addLater, addOrder, adding, addOf}
 use Rattle.outcome.specs.Refusals.{decided-number}
 
 -- 'Starting: 9'
@@ -49,36 +52,21 @@ pub data DisableAnswers (s : State) (k : ℕ) : ℕ → Type 0 where
   not-enabled : Usable s → ((f : Flow) → f ∈ flowsOf s → f .number ≢ k) → DisableAnswers s k 8
   accepted : Usable s → (f : Flow) → f ∈ flowsOf s → f .number ≡ k → DisableAnswers s k 0
 
--- THE STORAGE AND THE STATE
+-- adding a policy set to which no refusal applies
+pub record Adds (s : State) (c : ℕ) (p : TagSet) : Type 0 where
+  pub usable : Usable s
+  pub container : c < s .header .containers
+  pub known : (t : ℕ) → has p t ≡ true → t < s .header .containers
+  pub room : policyCount s c < 4
 
--- where a size is not right, the test says so
-too-short : (n : ℕ) (lent : Storage) → ¬ IsSized n lent → badSize n lent ≡ true
-too-short n lent z = cases (badSize n lent) (λ e. e) (λ e. absurd (z (sized n lent .0 e)))
-
--- the same for a state
-invalid : (s : State) → ¬ IsValid s → validOf s ≡ false
-invalid s z = cases (validOf s) (λ e. absurd (z (valid s .0 e))) (λ e. e)
-
--- and where both are right
-sized-state : (s : State) → Usable s → badSize (s .header .containers) (s .storage) ≡ false
-sized-state s u = sized (s .header .containers) (s .storage) .1 (u .sized)
-
-valid-state : (s : State) → Usable s → validOf s ≡ true
-valid-state s u = valid s .1 (u .valid)
-
--- a storage is long enough or not; if it is, the state is valid or not
-size-cases : (n : ℕ) (lent : Storage) → IsSized n lent ⊎ (¬ IsSized n lent)
-size-cases n lent = cases (badSize n lent) (λ e. inr (λ z. false≢true (sym (sized n lent .1 z) ∙ e))) (λ e. inl (sized n lent .0 e))
-
-valid-cases : (s : State) → IsValid s ⊎ (¬ IsValid s)
-valid-cases s = cases (validOf s) (λ e. inl (valid s .0 e)) (λ e. inr (λ v. false≢true (sym e ∙ valid s .1 v)))
-
--- so what holds of a storage that is too short, of an invalid state and of a usable one holds of all
-by-state : {P : Type 0} (s : State) → (¬ IsSized (s .header .containers) (s .storage) → P) → (IsSized (s .header .containers) (s .storage) → ¬ IsValid s → P)
-    → (Usable s → P) → P
-by-state s short wrong right =
-    ⊎-elim (λ z. ⊎-elim (λ v. right (record { sized = z; valid = v })) (λ v. wrong z v) (valid-cases s)) short
-    (size-cases (s .header .containers) (s .storage))
+-- 'Adding a set: 9, 12, 4 for the holder, 4 for the set, 11'
+pub data AddAnswers (s : State) (c : ℕ) (p : TagSet) : ℕ → Type 0 where
+  bad-size : ¬ IsSized (s .header .containers) (s .storage) → AddAnswers s c p 9
+  invalid-state : IsSized (s .header .containers) (s .storage) → ¬ IsValid s → AddAnswers s c p 12
+  no-such-container : Usable s → s .header .containers ≤ c → AddAnswers s c p 4
+  unknown-tag : Usable s → c < s .header .containers → (t : ℕ) → has p t ≡ true → s .header .containers ≤ t → AddAnswers s c p 4
+  policy-full : Usable s → c < s .header .containers → ((t : ℕ) → has p t ≡ true → t < s .header .containers) → 4 ≤ policyCount s c → AddAnswers s c p 11
+  accepted : Adds s c p → AddAnswers s c p 0
 
 -- STARTING
 
@@ -104,21 +92,25 @@ start-answers n lent k =
 -- a row's number is the one answered
 enable-number : (s : State) (f : Flow) {k : ℕ} → EnableAnswers s f k → firstOf (enableOrder s f) 0 ≡ k
 unfolding enableOrder enableLater
-enable-number s f (bad-size z) = rw (too-short (s .header .containers) (s .storage) z) refl
-enable-number s f (invalid-state z v) = rw (sized (s .header .containers) (s .storage) .1 z, invalid s v) refl
-enable-number s f (no-such-from u x) = rw (sized-state s u, valid-state s u, le-leb (s .header .containers) (f .from) x) refl
+enable-number s f (bad-size z) = short-first s (enableLater s f) z
+enable-number s f (invalid-state z v) = invalid-first s (enableLater s f) z v
+enable-number s f (no-such-from u x) = usable-first s (enableLater s f) u ∙ rw (le-leb (s .header .containers) (f .from) x) refl
 enable-number s f (no-such-to u x y) =
-    rw (sized-state s u, valid-state s u, lt-leb (s .header .containers) (f .from) x, le-leb (s .header .containers) (f .to) y) refl
+    usable-first s (enableLater s f) u ∙ rw (lt-leb (s .header .containers) (f .from) x, le-leb (s .header .containers) (f .to) y) refl
 enable-number s f (self-flow u x y d) =
-    rw (sized-state s u, valid-state s u, lt-leb (s .header .containers) (f .from) x, lt-leb (s .header .containers) (f .to) y, eq-eqb (f .from) (f .to) d) refl
+    usable-first s (enableLater s f) u
+    ∙ rw (lt-leb (s .header .containers) (f .from) x, lt-leb (s .header .containers) (f .to) y, eq-eqb (f .from) (f .to) d) refl
 enable-number s f (stale-number u p g) =
-    rw (sized-state s u, valid-state s u, lt-leb (s .header .containers) (f .from) (p .0), lt-leb (s .header .containers) (f .to) (p .1), ne-eqb (f .from) (f .to) (p .2), le-leb (f .number) (s .header .greatest) g)
+    usable-first s (enableLater s f) u
+    ∙ rw (lt-leb (s .header .containers) (f .from) (p .0), lt-leb (s .header .containers) (f .to) (p .1), ne-eqb (f .from) (f .to) (p .2), le-leb (f .number) (s .header .greatest) g)
     refl
 enable-number s f (table-full u p g r) =
-    rw (sized-state s u, valid-state s u, lt-leb (s .header .containers) (f .from) (p .0), lt-leb (s .header .containers) (f .to) (p .1), ne-eqb (f .from) (f .to) (p .2), lt-leb (f .number) (s .header .greatest) g, le-leb 512 (s .header .count) r)
+    usable-first s (enableLater s f) u
+    ∙ rw (lt-leb (s .header .containers) (f .from) (p .0), lt-leb (s .header .containers) (f .to) (p .1), ne-eqb (f .from) (f .to) (p .2), lt-leb (f .number) (s .header .greatest) g, le-leb 512 (s .header .count) r)
     refl
 enable-number s f (accepted e) =
-    rw (sized-state s (e .usable), valid-state s (e .usable), lt-leb (s .header .containers) (f .from) (e .proper .0), lt-leb (s .header .containers) (f .to) (e .proper .1), ne-eqb (f .from) (f .to) (e .proper .2), lt-leb (f .number) (s .header .greatest) (e .above), lt-leb 512 (s .header .count) (e .room))
+    usable-first s (enableLater s f) (e .usable)
+    ∙ rw (lt-leb (s .header .containers) (f .from) (e .proper .0), lt-leb (s .header .containers) (f .to) (e .proper .1), ne-eqb (f .from) (f .to) (e .proper .2), lt-leb (f .number) (s .header .greatest) (e .above), lt-leb 512 (s .header .count) (e .room))
     refl
 
 -- some row applies to a usable state: by the ends, the number, the room
@@ -160,10 +152,10 @@ missing k fs h = cases (isEnabled k fs) (λ e. let w = enabled-number k fs e in 
 -- a row's number is the one answered
 disable-number : (s : State) (k : ℕ) {j : ℕ} → DisableAnswers s k j → firstOf (disableOrder s k) 0 ≡ j
 unfolding disableOrder disableLater
-disable-number s k (bad-size z) = rw (too-short (s .header .containers) (s .storage) z) refl
-disable-number s k (invalid-state z v) = rw (sized (s .header .containers) (s .storage) .1 z, invalid s v) refl
-disable-number s k (not-enabled u h) = rw (sized-state s u, valid-state s u, missing k (flowsOf s) h) refl
-disable-number s k (accepted u f m q) = rw (sized-state s u, valid-state s u, number-enabled k (flowsOf s) m q) refl
+disable-number s k (bad-size z) = short-first s (disableLater s k) z
+disable-number s k (invalid-state z v) = invalid-first s (disableLater s k) z v
+disable-number s k (not-enabled u h) = usable-first s (disableLater s k) u ∙ rw (missing k (flowsOf s) h) refl
+disable-number s k (accepted u f m q) = usable-first s (disableLater s k) u ∙ rw (number-enabled k (flowsOf s) m q) refl
 
 -- some row applies to a usable state: by the number
 disable-row : (s : State) (k : ℕ) → Usable s → (j : ℕ) × DisableAnswers s k j
@@ -178,3 +170,42 @@ disable-answers s k j =
     let w = by-state s (λ z. (9, bad-size z)) (λ z v. (12, invalid-state z v)) (disable-row s k) in
     rw (decided-number (firstOf (disableOrder s k) 0) s 0 (disabling s k))
     (λ e. subst (DisableAnswers s k) (sym (disable-number s k (w .1)) ∙ e) (w .1), disable-number s k)
+
+-- ADDING A POLICY SET
+
+-- a row's number is the one answered
+add-number : (s : State) (c : ℕ) (p : TagSet) {k : ℕ} → AddAnswers s c p k → firstOf (addOrder s c p) 0 ≡ k
+unfolding addOrder addLater
+add-number s c p (bad-size z) = short-first s (addLater s c p) z
+add-number s c p (invalid-state z v) = invalid-first s (addLater s c p) z v
+add-number s c p (no-such-container u x) = usable-first s (addLater s c p) u ∙ rw (le-leb (s .header .containers) c x) refl
+add-number s c p (unknown-tag u x t h y) =
+    usable-first s (addLater s c p) u ∙ rw (lt-leb (s .header .containers) c x, exceeds-of-tag p (s .header .containers) t y h) refl
+add-number s c p (policy-full u x h y) =
+    usable-first s (addLater s c p) u
+    ∙ rw (lt-leb (s .header .containers) c x, not-exceeds-of-has p (s .header .containers) h, le-leb 4 (policyCount s c) y) refl
+add-number s c p (accepted e) =
+    usable-first s (addLater s c p) (e .usable)
+    ∙ rw (lt-leb (s .header .containers) c (e .container), not-exceeds-of-has p (s .header .containers) (e .known), lt-leb 4 (policyCount s c) (e .room)) refl
+
+-- some row applies to a usable state: by the container, the set's tags, the room
+add-row : (s : State) (c : ℕ) (p : TagSet) → Usable s → (k : ℕ) × AddAnswers s c p k
+add-row s c p u =
+    by-cases (decLt c (s .header .containers))
+    (λ x.
+    cases (exceedsOf p (s .header .containers)) (λ e. let w = exceeds-tag p (s .header .containers) e in (4, unknown-tag u x (w .0) (w .2) (w .1)))
+    (λ e. known x (not-exceeds p (s .header .containers) e)))
+    (λ x. (4, no-such-container u (omega (arith, x))))
+  where
+    known : c < s .header .containers → ((t : ℕ) → has p t ≡ true → t < s .header .containers) → (k : ℕ) × AddAnswers s c p k
+    known x h =
+        by-cases (decLt (policyCount s c) 4) (λ r. (0, accepted (record { usable = u; container = x; known = h; room = r })))
+        (λ r. (11, policy-full u x h (omega (arith, r))))
+
+-- so the number answered is that of the row that applies
+pub add-answers : (s : State) (c : ℕ) (p : TagSet) (k : ℕ) → (addOf s c p .answer .refusal ≡ k) ↔ AddAnswers s c p k
+unfolding addOf
+add-answers s c p k =
+    let w = by-state s (λ z. (9, bad-size z)) (λ z v. (12, invalid-state z v)) (add-row s c p) in
+    rw (decided-number (firstOf (addOrder s c p) 0) s 0 (adding s c p))
+    (λ e. subst (AddAnswers s c p) (sym (add-number s c p (w .1)) ∙ e) (w .1), add-number s c p)

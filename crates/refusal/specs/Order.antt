@@ -3,7 +3,9 @@
 use mathlib.Core.Path.{_≡_, refl, sym, ap, _∙_}
 use mathlib.Core.Bool.{Bool, true, false, cond}
 use mathlib.Core.List.{List, [], _∷_, _++_}
-use mathlib.Core.Logic.{_⊎_, inl, inr}
+use mathlib.Core.Logic.{_⊎_, inl, inr, _↔_}
+use Prim.Native.Nat.{ℕ, suc}
+use native.Mathlib.Nat.{suc-ne-zero}
 
 -- the answer beside the first condition that holds, or the other answer where none does
 abbrev pub firstOf {ℓ} : {A : Type ℓ} → List (Bool × A) → A → A
@@ -68,3 +70,11 @@ module _ {A : Type 0} where
             holds = h .holds;
             answer = h .answer ∙ sym (ap (λ (t : Bool). cond t (c .1) (firstOf cs a)) e);
           })
+
+-- a refusal's number, where 0 is none, is answered exactly if it stands beside the first condition that holds
+pub first-number : (cs : List (Bool × ℕ)) (k : ℕ) → (firstOf cs 0 ≡ suc k) ↔ IsFirst cs (suc k)
+first-number cs k = (λ e. pick e (first-cases cs 0), λ h. first-is cs 0 h)
+  where
+    pick : firstOf cs 0 ≡ suc k → NoneHolds cs ⊎ IsFirst cs (firstOf cs 0) → IsFirst cs (suc k)
+    pick e (inl none) = absurd (suc-ne-zero k (sym e ∙ first-none cs 0 none))
+    pick e (inr h) = rw e at h

@@ -2,3 +2,4 @@ pub mod State
 pub mod Valid
 pub mod Layout
 pub mod IsValid
+pub mod Judging

@@ -39,7 +39,7 @@ abbrev word : TagSet → ℕ → ℕ
 word s j = getD (s .words) j 0
 
 -- a word outside the set is as it was
-put-other : (ws : List ℕ) (k : ℕ) (s : TagSet) (i : ℕ) → i ≢ 4 * k → i ≢ 4 * k + 1 → i ≢ 4 * k + 2 → i ≢ 4 * k + 3
+pub put-other : (ws : List ℕ) (k : ℕ) (s : TagSet) (i : ℕ) → i ≢ 4 * k → i ≢ 4 * k + 1 → i ≢ 4 * k + 2 → i ≢ 4 * k + 3
     → getD (putSet ws k s) i 0 ≡ getD ws i 0
 unfolding putSet
 put-other ws k s i n0 n1 n2 n3 =

@@ -1,20 +1,22 @@
 -- What a call comes to once the storage is judged: the refusal 9 or 12, or the work. Assumes nothing.
 use mathlib.Core.Path.{_≡_, refl, sym, ap, _∙_}
-use mathlib.Core.Bool.{Bool, true, false, not}
-use mathlib.Core.List.{List, [], _∷_, _++_}
+use mathlib.Core.Bool.{Bool, true, false}
+use mathlib.Core.List.{List, [], _++_}
 use Prim.Native.Nat.{ℕ, suc, _*_, _/_, min}
 use native.Mathlib.Omega.{arith}
 use lib.ListN.{length, drop, replicate, drop-of-length-le}
 use Rattle.refusal.specs.Order.{firstOf}
 use Rattle.model.specs.declared.Flow.{Flow}
+use Rattle.tagset.specs.declared.TagSet.{TagSet}
 use Rattle.tagset.specs.Set.{singleOf}
 use Rattle.state.specs.State.{Storage, State, shortOf, badSize, storageOf, withSets, noFlow, withFlows}
-use Rattle.state.specs.Valid.{validOf, stateOrder}
-use Rattle.state.specs.IsValid.{IsSized, sized, bad-size-short, valid, Usable}
+use Rattle.state.specs.Valid.{stateOrder}
+use Rattle.state.specs.IsValid.{IsSized, sized, bad-size-short}
+use Rattle.state.specs.Judging.{judged-first}
 use Rattle.tagstore.specs.Store.{zeroFront}
 use Rattle.tagstore.specs.Starting.{zero-front, own-all}
 use Rattle.tracker.specs.Replies.{refused, givenBack, leftBy}
-use Rattle.outcome.specs.Outcome.{Outcome, decided, noHeader, started, startOrder, startOf, enableLater, enableOrder, enableOf, disableLater, disableOrder, disableOf}
+use Rattle.outcome.specs.Outcome.{Outcome, decided, noHeader, started, startOrder, startOf, enableLater, enableOrder, enableOf, disableLater, disableOrder, disableOf, addLater, addOrder, addOf}
 use Rattle.tracker.specs.declared.Reply.the-variants.{Accepted}
 
 -- EVENTS
@@ -28,32 +30,18 @@ unfolding decided
 refuses r k s gain s' e = rw e refl
 
 module _ (s : State) where
-  -- a state in which nothing is refused is usable
-  pub judged-usable : firstOf (stateOrder s) 0 ≡ 0 → Usable s
-  judged-usable e = go (badSize (s .header .containers) (s .storage)) (validOf s) refl refl e
-    where
-      go : (b v : Bool) → badSize (s .header .containers) (s .storage) ≡ b → validOf s ≡ v → firstOf {A = ℕ} ((b, 9) ∷ (not v, 12) ∷ []) 0 ≡ 0 → Usable s
-      go true v p q e = absurd (omega (arith, e))
-      go false false p q e = absurd (omega (arith, e))
-      go false true p q e = record { sized = sized (s .header .containers) (s .storage) .0 p; valid = valid s .0 q }
-
-  -- a refusal of the state comes before all others
-  judged-first : (k : ℕ) (rest : List (Bool × ℕ)) → firstOf (stateOrder s) 0 ≡ suc k → firstOf (stateOrder s ++ rest) 0 ≡ suc k
-  judged-first k rest = go (badSize (s .header .containers) (s .storage)) (not (validOf s))
-    where
-      go : (a b : Bool) → firstOf {A = ℕ} ((a, 9) ∷ (b, 12) ∷ []) 0 ≡ suc k → firstOf {A = ℕ} ((a, 9) ∷ (b, 12) ∷ rest) 0 ≡ suc k
-      go true b e = e
-      go false true e = e
-      go false false e = absurd (omega (arith, e))
-
-  -- so both calls answer it, and leave the state
+  -- a refusal of the state is answered by every call, and leaves the state
   pub enable-judged : (f : Flow) (k : ℕ) → firstOf (stateOrder s) 0 ≡ suc k → enableOf s f ≡ refusedIn s (suc k)
   unfolding enableOf enableOrder
-  enable-judged f k e = refuses (firstOf (enableOrder s f) 0) k s _ _ (judged-first k (enableLater s f) e)
+  enable-judged f k e = refuses (firstOf (enableOrder s f) 0) k s _ _ (judged-first s k (enableLater s f) e)
 
   pub disable-judged : (number k : ℕ) → firstOf (stateOrder s) 0 ≡ suc k → disableOf s number ≡ refusedIn s (suc k)
   unfolding disableOf disableOrder
-  disable-judged number k e = refuses (firstOf (disableOrder s number) 0) k s _ _ (judged-first k (disableLater s number) e)
+  disable-judged number k e = refuses (firstOf (disableOrder s number) 0) k s _ _ (judged-first s k (disableLater s number) e)
+
+  pub add-judged : (c : ℕ) (p : TagSet) (k : ℕ) → firstOf (stateOrder s) 0 ≡ suc k → addOf s c p ≡ refusedIn s (suc k)
+  unfolding addOf addOrder
+  add-judged c p k e = refuses (firstOf (addOrder s c p) 0) k s _ _ (judged-first s k (addLater s c p) e)
 
 -- STARTING
 

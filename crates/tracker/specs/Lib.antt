@@ -1,7 +1,5 @@
-pub mod Claims
 pub mod Replies
 pub mod Unjudged
 pub mod UnjudgedLaws
 pub mod Judged
 pub mod UnjudgedBranches
-pub mod Running

@@ -8,7 +8,7 @@ use Rattle.model.specs.declared.Flow.{Flow}
 use Rattle.state.specs.declared.Header.{Header}
 use Rattle.state.specs.State.{stateOf}
 use Rattle.tracker.specs.declared.Reply.{Reply}
-use Rattle.tracker.specs.declared.Reply.the-variants.{Accepted, NoSuchContainer, SelfFlow, StaleNumber, TableFull, NotEnabled, BadSize, InvalidState}
+use Rattle.tracker.specs.declared.Reply.the-variants.{Accepted, NoSuchContainer, SelfFlow, StaleNumber, TableFull, NotEnabled, BadSize, PolicyFull, InvalidState}
 use Rattle.tracker.specs.declared.Answered.{Answered}
 use Rattle.outcome.specs.Outcome.{Answer, Outcome}
 
@@ -16,7 +16,7 @@ use Rattle.outcome.specs.Outcome.{Answer, Outcome}
 abbrev pub refused : ℕ → Answer
 refused k = record { refusal = k; gain = 0 }
 
--- 4 'no such holder', 5 'same holder', 6 'old number', 7 'rack full', 8 'not open', 9 'bad size', 12 'unsound book'
+-- 4 'no such holder', 5 'same holder', 6 'old number', 7 'rack full', 8 'not open', 9 'bad size', 11 'sets full', 12 'unsound book'
 abbrev pub answerOf : Reply → Answer
 answerOf (Accepted gain) = record { refusal = 0; gain = gain }
 answerOf NoSuchContainer = refused 4
@@ -25,6 +25,7 @@ answerOf StaleNumber = refused 6
 answerOf TableFull = refused 7
 answerOf NotEnabled = refused 8
 answerOf BadSize = refused 9
+answerOf PolicyFull = refused 11
 answerOf InvalidState = refused 12
 
 -- what a call gives back: its reply, the header, the flow table
@@ -42,7 +43,7 @@ replyOf a =
     ((eqb (a .refusal) 0, Accepted (a .gain))
     ∷ (eqb (a .refusal) 4, NoSuchContainer)
     ∷ (eqb (a .refusal) 5, SelfFlow)
-    ∷ (eqb (a .refusal) 6, StaleNumber) ∷ (eqb (a .refusal) 7, TableFull) ∷ (eqb (a .refusal) 8, NotEnabled) ∷ (eqb (a .refusal) 9, BadSize) ∷ [])
+    ∷ (eqb (a .refusal) 6, StaleNumber) ∷ (eqb (a .refusal) 7, TableFull) ∷ (eqb (a .refusal) 8, NotEnabled) ∷ (eqb (a .refusal) 9, BadSize) ∷ (eqb (a .refusal) 11, PolicyFull) ∷ [])
     InvalidState
 
 reply-back : (r : Reply) → replyOf (answerOf r) ≡ r
@@ -54,6 +55,7 @@ reply-back StaleNumber = refl
 reply-back TableFull = refl
 reply-back NotEnabled = refl
 reply-back BadSize = refl
+reply-back PolicyFull = refl
 reply-back InvalidState = refl
 
 pub answer-injective : (q r : Reply) → answerOf q ≡ answerOf r → q ≡ r

@@ -5,10 +5,11 @@ use Prim.Native.Nat.{ℕ, _+_, _-_, min}
 use lib.ListN.{set, take}
 use Rattle.refusal.specs.Order.{firstOf}
 use Rattle.model.specs.declared.Flow.{Flow}
+use Rattle.tagset.specs.declared.TagSet.{TagSet}
 use Rattle.state.specs.State.{State, flowsOf}
 use Rattle.flowtable.specs.FlowTable.{placeOf, removedAt}
 use Rattle.propagation.specs.Pass.{setsAfter, pairsAdded}
-use Rattle.outcome.specs.Outcome.{Outcome, decided, stored, enableLater, disableLater}
+use Rattle.outcome.specs.Outcome.{Outcome, decided, stored, enableLater, disableLater, addLater, adding}
 
 -- the flow stands in the first free place of the table, and the flows up to it carry
 unfoldable pub appendedTo : State → Flow → List Flow
@@ -29,3 +30,7 @@ unfoldable pub applyDisableOf : State → ℕ → Outcome
 applyDisableOf s k =
     decided (firstOf (disableLater s k) 0) s 0
     (stored s (s .header .count - 1) (removedAt (placeOf k (flowsOf s)) (min 512 (s .header .count)) (s .storage .flows)) (s .header .greatest) (s .storage .tags))
+
+-- adding a policy set where neither 9 nor 12 is judged
+unfoldable pub applyAddOf : State → ℕ → TagSet → Outcome
+applyAddOf s c p = decided (firstOf (addLater s c p) 0) s 0 (adding s c p)

@@ -1,16 +1,19 @@
--- The branches of `apply_enable` and `apply_disable`, test by test, and what is left in each: the laws that their proofs cite. Assumes nothing.
+-- The branches of `apply_enable`, `apply_disable` and `apply_add`, test by test, and what is left in each: the laws that their proofs cite. Assumes nothing.
 use mathlib.Core.Path.{_≡_, refl, sym, ap, _∙_}
-use mathlib.Core.Bool.{true, not, false≢true}
+use mathlib.Core.Bool.{true, false, not, false≢true}
 use mathlib.Core.List.{List, [], _∷_}
 use mathlib.Core.Logic.{_≢_}
-use Prim.Native.Nat.{ℕ, zero, suc, _+_, _-_, _≤_, _<_}
+use Prim.Native.Nat.{ℕ, zero, suc, _+_, _-_, _*_, _≤_, _<_}
 use native.Mathlib.Omega.{arith}
 use lib.ListN.{length, set, take}
 use borrow.Author.Tests.{le-leb, lt-leb, eq-eqb, ne-eqb}
 use Rattle.refusal.specs.Order.{firstOf}
 use Rattle.model.specs.declared.Flow.{Flow}
 use Rattle.model.specs.Model.{isEnabled}
+use Rattle.tagset.specs.declared.TagSet.{TagSet}
+use Rattle.tagset.specs.Set.{exceedsOf}
 use Rattle.state.specs.State.{State, flowsOf}
+use Rattle.tagstore.specs.Store.{putSet}
 use Rattle.flowtable.specs.FlowTable.{foundIn, removedAt}
 use Rattle.flowtable.specs.Laws.{found-absent, found-place, removed-within}
 use Rattle.flowtable.specs.declared.Found.the-variants.{At, Absent}
@@ -19,9 +22,9 @@ use Rattle.tracker.specs.declared.Answered.{Answered}
 use Rattle.tracker.specs.declared.Reply.{Reply}
 use Rattle.tracker.specs.declared.Reply.the-variants.{Accepted}
 use Rattle.tracker.specs.Replies.{answerOf, givenBack, leftBy}
-use Rattle.outcome.specs.Outcome.{Outcome, decided, enableLater, disableLater}
+use Rattle.outcome.specs.Outcome.{Outcome, decided, enableLater, disableLater, policyCount, addLater, adding}
 use Rattle.tracker.specs.Judged.{refusedIn, refuses}
-use Rattle.tracker.specs.Unjudged.{appendedTo, carrying, applyEnableOf, applyDisableOf}
+use Rattle.tracker.specs.Unjudged.{appendedTo, carrying, applyEnableOf, applyDisableOf, applyAddOf}
 
 -- a call that gives back what it was given
 pub left-refused : {r : Answered} {reply : Reply} {o : Outcome} (s : State) → r ≡ givenBack reply (s .header) (s .storage .flows)
@@ -107,3 +110,35 @@ module _ (s : State) (k : ℕ) where
   disables {place} long a p =
       let e = found-place k (flowsOf s) a in
       rw (e .0, p ∙ removed-within 512 place (s .header .count) (s .storage .flows) (omega (arith, long)), e .1) refl
+
+-- ADDING A POLICY SET
+
+module _ (s : State) (c : ℕ) (p : TagSet) where
+  -- the first of its tests that holds decides
+  add-first : (k : ℕ) → firstOf (addLater s c p) 0 ≡ suc k → applyAddOf s c p ≡ refusedIn s (suc k)
+  unfolding applyAddOf
+  add-first k e = refuses (firstOf (addLater s c p) 0) k s _ _ e
+
+  -- 4: no such container
+  pub no-container : s .header .containers ≤ c → applyAddOf s c p ≡ refusedIn s 4
+  unfolding addLater
+  no-container a = add-first 3 (simp (le-leb (s .header .containers) c a) refl)
+
+  module _ (a : c < s .header .containers) where
+    -- 4: a tag that is no container's
+    pub unknown-tag : exceedsOf p (s .header .containers) ≡ true → applyAddOf s c p ≡ refusedIn s 4
+    unfolding addLater
+    unknown-tag b = add-first 3 (simp (lt-leb (s .header .containers) c a, b) refl)
+
+    module _ (b : exceedsOf p (s .header .containers) ≡ false) where
+      -- 11: four policy sets
+      pub policy-full : 4 ≤ policyCount s c → applyAddOf s c p ≡ refusedIn s 11
+      unfolding addLater
+      policy-full d = add-first 10 (simp (lt-leb (s .header .containers) c a, b, le-leb 4 (policyCount s c) d) refl)
+
+      -- the work
+      pub adds : policyCount s c < 4 → {policies counts : List ℕ} → policies ≡ putSet (s .storage .policies) (4 * c + policyCount s c) p
+          → counts ≡ set (s .storage .policyCounts) c (policyCount s c + 1)
+          → leftBy (givenBack (Accepted 0) (s .header) (s .storage .flows)) (s .storage .tags) policies counts ≡ applyAddOf s c p
+      unfolding applyAddOf addLater decided adding
+      adds d q r = simp (lt-leb (s .header .containers) c a, b, lt-leb 4 (policyCount s c) d) (rw (q, r) refl)

@@ -12,26 +12,27 @@ use Rattle.refusal.specs.Order.{firstOf, IsFirst}
 use Rattle.model.specs.declared.Flow.{Flow}
 use Rattle.model.specs.Model.{edgesOf, without, isEnabled}
 use Rattle.model.specs.Closure.{Within}
+use Rattle.tagset.specs.declared.TagSet.{TagSet}
 use Rattle.tagset.specs.Set.{has}
 use Rattle.tagset.specs.Laws.{ext, subset-of-has}
 use Rattle.state.specs.State.{State, setAt, flowsOf, withFlows}
-use Rattle.state.specs.Valid.{stateOrder}
 use Rattle.state.specs.Layout.{Fit64, set-fits}
-use Rattle.state.specs.IsValid.{sized, valid, Usable}
+use Rattle.state.specs.IsValid.{Usable}
+use Rattle.state.specs.Judging.{usable-first}
 use Rattle.tagstore.specs.Store.{totalOf}
 use Rattle.tagstore.specs.Laws.{words-ext}
 use Rattle.flowtable.specs.FlowTable.{placeOf, removedAt}
 use Rattle.flowtable.specs.Laws.{appended, appended-flows, without-count, removed}
 use Rattle.propagation.specs.Exact.{passed-length, passed-beyond, passed-fits, exact, after-is, pairs-total}
 use Rattle.propagation.specs.Pass.{passesOf, passed, setsAfter, pairsAdded}
-use Rattle.outcome.specs.Outcome.{decided, stored, propagated, gainOf, changed, enabling, disabling, enableLater, enableOrder, enableOf, disableLater, disableOrder, disableOf, outcomeOf}
+use Rattle.outcome.specs.Outcome.{decided, stored, propagated, gainOf, changed, enabling, disabling, enableLater, enableOrder, enableOf, disableLater, disableOrder, disableOf, addLater, addOrder, adding, addOf, outcomeOf}
 use Rattle.outcome.specs.Refusals.{decided-number, decided-refusal, decided-refused}
 use Rattle.outcome.specs.Propagation.{propagated-has, propagated-fits}
 use Rattle.outcome.specs.Table.{Enables}
 use Rattle.outcome.specs.Stays.{usable-count, propagated-length, propagated-keeps, flows-within, changed-flows, enable-usable}
 use Rattle.outcome.specs.Steps.{enable-accepted}
 use Rattle.outcome.specs.Effects.{gain-total, propagated-beyond}
-use Rattle.tracker.specs.Unjudged.{appendedTo, carrying, applyEnableOf, applyDisableOf}
+use Rattle.tracker.specs.Unjudged.{appendedTo, carrying, applyEnableOf, applyDisableOf, applyAddOf}
 
 -- PASSES AND THE CLOSURE
 
@@ -93,10 +94,6 @@ pub apply-disable-refused : (s : State) (j k : ℕ) → applyDisableOf s j .answ
 unfolding applyDisableOf
 apply-disable-refused s j k = decided-refused (firstOf (disableLater s j) 0) s _ _ k
 
--- on a usable state the first two conditions of an order do not hold
-judged : (s : State) → Usable s → (rest : List (Bool × ℕ)) → firstOf (stateOrder s ++ rest) 0 ≡ firstOf rest 0
-judged s u rest = rw (sized (s .header .containers) (s .storage) .1 (u .sized), valid s .1 (u .valid)) refl
-
 module _ (s : State) (u : Usable s) where
   -- the flows that carry after an enable are those enabled before, and the new one last
   carrying-is : (f : Flow) → s .header .count < 512 → carrying s f ≡ flowsOf s ++ (f ∷ [])
@@ -148,7 +145,7 @@ module _ (s : State) (u : Usable s) where
   pub apply-enable : (f : Flow) → Fit64 (s .storage .tags) → applyEnableOf s f ≡ enableOf s f
   unfolding applyEnableOf enableOf enableOrder outcomeOf
   apply-enable f fit =
-      let same : firstOf (enableOrder s f) 0 ≡ firstOf (enableLater s f) 0 = judged s u (enableLater s f) in
+      let same : firstOf (enableOrder s f) 0 ≡ firstOf (enableLater s f) 0 = usable-first s (enableLater s f) u in
       decided-same (firstOf (enableLater s f) 0) s
       (λ z. enable-work f fit (enable-accepted s f .0 (decided-number (firstOf (enableOrder s f) 0) s _ _ ∙ same ∙ z)))
       ∙ ap (λ (r : ℕ). decided r s (gainOf (s .header .containers) (s .storage .tags) (enabling s f .storage .tags)) (enabling s f)) (sym same)
@@ -176,10 +173,15 @@ module _ (s : State) (u : Usable s) where
   pub apply-disable : (k : ℕ) → applyDisableOf s k ≡ disableOf s k
   unfolding applyDisableOf disableOf disableOrder disableLater
   apply-disable k =
-      let same : firstOf (disableOrder s k) 0 ≡ firstOf (disableLater s k) 0 = judged s u (disableLater s k) in
+      let same : firstOf (disableOrder s k) 0 ≡ firstOf (disableLater s k) 0 = usable-first s (disableLater s k) u in
       decided-same (firstOf (disableLater s k) 0) s (λ z. (refl, disable-work k (found (isEnabled k (flowsOf s)) z)))
       ∙ ap (λ (r : ℕ). decided r s 0 (disabling s k)) (sym same)
     where
       found : (b : Bool) → firstOf {A = ℕ} ((not b, 8) ∷ []) 0 ≡ 0 → b ≡ true
       found true z = refl
       found false z = absurd (omega (arith, z))
+
+  -- ADD: the outcome is the public one
+  pub apply-add : (c : ℕ) (p : TagSet) → applyAddOf s c p ≡ addOf s c p
+  unfolding applyAddOf addOf addOrder
+  apply-add c p = ap (λ (r : ℕ). decided r s 0 (adding s c p)) (sym (usable-first s (addLater s c p) u))

@@ -1,16 +1,18 @@
-// The tracker: start, enable, disable. What each call answers and leaves stands in outcome/specs/Outcome.antt, what is claimed of it in specs/Claims.antt.
+// The tracker: start, enable, disable, add a policy set. What each call answers and leaves stands in outcome/specs/Outcome.antt, what is claimed of it in specs/Claims.antt.
 // Lent are four words of tags a container, sixteen words of policy sets and one count of these; the flow table goes by value.
 use flowtable::Found;
 use model::Flow;
 use state::Header;
+use tagset::TagSet;
 use validity::Judgement;
 ghost use mathlib.Core.Path.{_≡_};
 ghost use mathlib.Core.List.{List};
-ghost use Prim.Native.Nat.{ℕ};
+ghost use Prim.Native.Nat.{ℕ, _*_, _≤_};
+ghost use lib.ListN.{length};
 ghost use Rattle.state.specs.State.{storageOf, stateOf};
 ghost use Rattle.tracker.specs.Replies.{givenBack, leftBy};
-ghost use Rattle.outcome.specs.Outcome.{startOf, enableOf, disableOf};
-ghost use Rattle.tracker.specs.Unjudged.{applyEnableOf, applyDisableOf};
+ghost use Rattle.outcome.specs.Outcome.{startOf, enableOf, disableOf, addOf};
+ghost use Rattle.tracker.specs.Unjudged.{applyEnableOf, applyDisableOf, applyAddOf};
 
 // What a call answers: that it is accepted, with its gain, or the refusal (specs/Replies.antt has the paper's numbers).
 pub enum Reply {
@@ -21,6 +23,7 @@ pub enum Reply {
     TableFull,
     NotEnabled,
     BadSize,
+    PolicyFull,
     InvalidState,
 }
 
@@ -106,6 +109,25 @@ pub fn disable(
     }
 }
 
+// Adds a policy set to a container (document 01: a permitted set), behind those that it has. It is no event.
+pub fn add_policy(
+    header: Header,
+    tags: &[u64],
+    policies: &mut [u64],
+    counts: &mut [u8],
+    flows: [Flow; 512],
+    container: u32,
+    policy: TagSet,
+) -> Answered
+    ensures { λ r. ⌜ leftBy r (now (tags .entry)) (now (policies .exit)) (now (counts .exit)) ≡ addOf (stateOf header (now (tags .entry)) (now (policies .entry)) (now (counts .entry)) flows) container policy ⌝ }
+{
+    match validity::judge(header, tags, policies, counts, flows) {
+        Judgement::BadSize => refused(Reply::BadSize, header, flows),
+        Judgement::InvalidState => refused(Reply::InvalidState, header, flows),
+        Judgement::Usable => apply_add(header, policies, counts, flows, container, policy),
+    }
+}
+
 // Enables a flow without judging the state: on a usable state (law `apply-enable`) as `enable` does. The policy sets are not looked at.
 pub fn apply_enable(header: Header, tags: &mut [u64], flows: [Flow; 512], flow: Flow) -> Answered
     ensures { λ r. ⌜ ((policies counts : List ℕ) → leftBy r (now (tags .exit)) policies counts ≡ applyEnableOf (stateOf header (now (tags .entry)) policies counts flows) flow) ⌝ }
@@ -155,6 +177,38 @@ pub fn apply_disable(header: Header, flows: [Flow; 512], number: u32) -> Answere
             greatest: header.greatest,
         },
         flows: flowtable::remove(flows, header.count, place),
+    }
+}
+
+// Adds a policy set in storage that is long enough, without judging the state.
+fn apply_add(
+    header: Header,
+    policies: &mut [u64],
+    counts: &mut [u8],
+    flows: [Flow; 512],
+    container: u32,
+    policy: TagSet,
+) -> Answered
+    requires { ⌜ (header .containers ≤ 256) × (16 * header .containers ≤ length (now policies)) × (header .containers ≤ length (now counts)) ⌝ }
+    ensures { λ r. ⌜ ((tags : List ℕ) → leftBy r tags (now (policies .exit)) (now (counts .exit)) ≡ applyAddOf (stateOf header tags (now (policies .entry)) (now (counts .entry)) flows) container policy) ⌝ }
+{
+    if header.containers <= container {
+        return refused(Reply::NoSuchContainer, header, flows);
+    }
+    if policy.exceeds(header.containers) {
+        return refused(Reply::NoSuchContainer, header, flows);
+    }
+    let c = container as usize;
+    let k = counts[c];
+    if 4 <= k {
+        return refused(Reply::PolicyFull, header, flows);
+    }
+    tagstore::store_set(policies, 4 * c + (k as usize), policy);
+    counts[c] = k + 1;
+    Answered {
+        reply: Reply::Accepted(0),
+        header: header,
+        flows: flows,
     }
 }
 

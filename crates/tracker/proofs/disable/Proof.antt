@@ -2,9 +2,10 @@
 use mathlib.Core.Path.{sym, ap, _∙_}
 use borrow.Author.Needs.{needs}
 use Rattle.state.specs.State.{State, stateOf}
+use Rattle.state.specs.Judging.{judged-usable}
 use Rattle.validity.specs.Judge.{judgementOf}
 use Rattle.tracker.specs.UnjudgedLaws.{apply-disable}
-use Rattle.tracker.specs.Judged.{judged-usable, disable-judged}
+use Rattle.tracker.specs.Judged.{disable-judged}
 use Rattle.tracker.specs.UnjudgedBranches.{left-refused}
 use Rattle.tracker.proofs.disable.Statement.{statement}
 use Rattle.tracker.proofs.disable.Tie as tie

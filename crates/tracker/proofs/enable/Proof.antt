@@ -2,9 +2,10 @@
 use mathlib.Core.Path.{sym, ap, _∙_}
 use borrow.Author.Needs.{needs}
 use Rattle.state.specs.State.{State, stateOf}
+use Rattle.state.specs.Judging.{judged-usable}
 use Rattle.validity.specs.Judge.{judgementOf}
 use Rattle.tracker.specs.UnjudgedLaws.{apply-enable}
-use Rattle.tracker.specs.Judged.{judged-usable, enable-judged}
+use Rattle.tracker.specs.Judged.{enable-judged}
 use Rattle.tracker.specs.UnjudgedBranches.{left-refused}
 use Rattle.tracker.proofs.enable.Statement.{statement}
 use Rattle.tracker.proofs.enable.Tie as tie

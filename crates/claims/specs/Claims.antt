@@ -18,6 +18,7 @@ use Rattle.model.specs.Closure.{Within, reaches-enabled}
 use Rattle.model.specs.Standing.{Standing, standing, without-part, enabled-flow, ends-edge}
 use Rattle.model.specs.Histories.{accepted-last, joins-added, not-joins-same, flows-empty, flows-one, flows-next, accepted-each, accepted-inside, Accepted, Occurs, MayEnable, enable-joins, disable-joins, numbers-rise}
 use Rattle.model.specs.Propositions.{event-changes-nothing, exec-adds, exact-at, proposition-1, proposition-2}
+use Rattle.tagset.specs.declared.TagSet.{TagSet}
 use Rattle.tagset.specs.Set.{has, bitAt}
 use Rattle.state.specs.State.{Storage, State, badSize, setAt, flowsOf}
 use Rattle.state.specs.Valid.{validOf}
@@ -26,18 +27,19 @@ use Rattle.state.specs.IsValid.{IsSized, sized, IsValid, valid, Usable}
 use Rattle.tagstore.specs.Store.{totalOf}
 use Rattle.propagation.specs.Pass.{pass, adds, passed, passesOf, passCount, setsAfter, pairsAdded}
 use Rattle.propagation.specs.Exact.{pass-has, adds-iff, count-is, passes-some, passes-add, passes-last}
 use Rattle.tracker.specs.declared.Reply.{Reply}
 use Rattle.tracker.specs.declared.Answered.{Answered}
 use Rattle.tracker.specs.Replies.{answerOf, answer-injective, leftBy}
 use Rattle.tracker.specs.Unjudged.{applyEnableOf, applyDisableOf}
 use Rattle.tracker.specs.UnjudgedLaws.{passes-propagate, passes-gain, apply-enable-refusal, apply-enable-refused, apply-disable-refusal, apply-disable-refused, apply-enable, apply-disable}
-use Rattle.tracker.specs.Running.{StartDoes, start-does, EnableDoes, enable-does, DisableDoes, disable-does, Called, called-is, called-of}
-use Rattle.outcome.specs.Outcome.{Outcome, startOrder, enableLater, disableLater, startOf, propagated, gainOf, enableOf, disableOf, Call, ask, orderOf, outcomeOf, eventsOf, after, configurationOf}
+use Rattle.claims.specs.Running.{StartDoes, start-does, EnableDoes, enable-does, DisableDoes, disable-does, AddDoes, add-does, Called, called-is, called-of}
+use Rattle.outcome.specs.Outcome.{Outcome, startOrder, enableLater, disableLater, startOf, propagated, gainOf, enableOf, disableOf, addOf, Call, ask, add, orderOf, outcomeOf, eventsOf, after, configurationOf}
 use Rattle.outcome.specs.Refusals.{start-refusal, start-refused, call-refusal, call-refused}
-use Rattle.outcome.specs.Table.{StartAnswers, start-answers, EnableAnswers, enable-answers, DisableAnswers, disable-answers}
+use Rattle.outcome.specs.Table.{StartAnswers, start-answers, EnableAnswers, enable-answers, DisableAnswers, disable-answers, AddAnswers, add-answers}
+use Rattle.outcome.specs.Policies.{PolicyAdded}
 use Rattle.outcome.specs.Stays.{settled}
-use Rattle.outcome.specs.Steps.{start-makes-usable, event-leaves-usable, call-keeps, usable-answers, Sentence, propagated-sentence, enable-sentence, disable-sentence, IsStarted, start-is-started, FlowsChanged, enable-flows, disable-flows}
-use Rattle.outcome.specs.Effects.{start-fits, call-fits, start-gains-nothing, SameBeyond, start-beyond, call-beyond, list-beyond, disable-tags, gain-counted, enable-gain, disable-gain}
+use Rattle.outcome.specs.Steps.{start-makes-usable, call-leaves-usable, call-keeps, usable-answers, Sentence, propagated-sentence, enable-sentence, disable-sentence, IsStarted, start-is-started, FlowsChanged, enable-flows, disable-flows, add-so}
+use Rattle.outcome.specs.Effects.{start-fits, call-fits, start-gains-nothing, SameBeyond, start-beyond, call-beyond, list-beyond, disable-tags, add-tags, gain-counted, enable-gain, disable-gain, add-gain}
 use Rattle.outcome.specs.Follows.{Follows, configuration-has, accepted-joins, calls-follow, begun-follows}
 
 -- THE DEFINITIONS: model/specs/Model.antt (containers, flows, executions; no word of a tracker) and Reach.antt; state/specs/State.antt and Valid.antt;
@@ -60,6 +62,9 @@ enable-answers-by-the-table = enable-answers
 pub disable-answers-by-the-table : (s : State) (k j : ℕ) → (disableOf s k .answer .refusal ≡ j) ↔ DisableAnswers s k j
 disable-answers-by-the-table = disable-answers
 
+pub add-answers-by-the-table : (s : State) (c : ℕ) (p : TagSet) (k : ℕ) → (addOf s c p .answer .refusal ≡ k) ↔ AddAnswers s c p k
+add-answers-by-the-table = add-answers
+
 -- the same of the lists of conditions: refusal k is answered exactly if its condition holds and none before it in the order does
 pub start-answers-the-first : (n : ℕ) (lent : Storage) (k : ℕ) → (startOf n lent .answer .refusal ≡ suc k) ↔ IsFirst (startOrder n lent) (suc k)
 start-answers-the-first = start-refusal
@@ -75,6 +80,10 @@ a-call-is-an-enable s f = refl
 pub a-call-is-a-disable : (s : State) (k : ℕ) → outcomeOf s (ask (disable k)) ≡ disableOf s k
 unfolding outcomeOf
 a-call-is-a-disable s k = refl
+
+pub a-call-is-an-add : (s : State) (c : ℕ) (p : TagSet) → outcomeOf s (add c p) ≡ addOf s c p
+unfolding outcomeOf
+a-call-is-an-add s c p = refl
 
 -- what the tests behind 9 and 12 say, clause by clause; and how the lists are read
 pub size-is-judged : (n : ℕ) (lent : Storage) → (badSize n lent ≡ false) ↔ IsSized n lent
@@ -116,7 +125,7 @@ pub call-keeps-64-bits : (s : State) (c : Call) → Fit64 (s .storage .tags) →
 call-keeps-64-bits = call-fits
 
 -- WHAT AN ACCEPTED CALL LEAVES: a start, n containers with their own tags alone; an enable, its flow last and its number the greatest; a disable, the
--- other flows. Tag sets after events are the matter of demand 2
+-- other flows; adding a policy set, that set behind those that the container has. Tag sets after events are the matter of demand 2
 pub start-makes-it-new : (n : ℕ) (lent : Storage) → startOf n lent .answer .refusal ≡ 0 → IsStarted n (startOf n lent .state) × (startOf n lent .answer .gain ≡ 0)
 start-makes-it-new n lent a = (start-is-started n lent a, start-gains-nothing n lent)
 
@@ -130,13 +139,16 @@ pub disable-takes-the-flow-out : (s : State) (k : ℕ) → disableOf s k .answer
 unfolding outcomeOf
 disable-takes-the-flow-out = disable-flows
 
--- VALID STAYS VALID. An accepted start or event leaves a state that is valid and of the right lengths, whatever came before; so every call on a valid
+pub add-puts-the-set-last : (s : State) (c : ℕ) (p : TagSet) → addOf s c p .answer .refusal ≡ 0 → PolicyAdded c p s (addOf s c p .state)
+add-puts-the-set-last = add-so
+
+-- VALID STAYS VALID. An accepted start or call leaves a state that is valid and of the right lengths, whatever came before; so every call on a valid
 -- state leaves one, and one on a state that is also of the right lengths leaves one that is
 pub start-makes-valid : (n : ℕ) (lent : Storage) → startOf n lent .answer .refusal ≡ 0 → Usable (startOf n lent .state)
 start-makes-valid = start-makes-usable
 
-pub accepted-event-leaves-valid : (s : State) (e : Event) → outcomeOf s (ask e) .answer .refusal ≡ 0 → Usable (outcomeOf s (ask e) .state)
-accepted-event-leaves-valid = event-leaves-usable
+pub accepted-call-leaves-valid : (s : State) (c : Call) → outcomeOf s c .answer .refusal ≡ 0 → Usable (outcomeOf s c .state)
+accepted-call-leaves-valid = call-leaves-usable
 
 pub call-keeps-valid : (s : State) (c : Call) → IsValid s → IsValid (outcomeOf s c .state)
 call-keeps-valid s c v = call-keeps IsValid s c (λ s u. u .valid) v
@@ -180,7 +192,14 @@ disable-has-nothing-to-propagate s k u c t l =
     let p = settled s (without k (flowsOf s)) u (λ f. without-part k (flowsOf s)) c t l in
     iff (has (setAt (propagated (s .header .containers) (without k (flowsOf s)) (s .storage .tags)) c) t) (has (setAt (s .storage .tags) c) t) (p .0) (p .1)
 
--- LISTS OF CALLS: each call gets the header that the one before answered and the lists that it left, refused or not; and asks for one event
+-- ADDING A POLICY SET CHANGES NO SET of tags and gains 0
+pub add-changes-no-set : (s : State) (c : ℕ) (p : TagSet) → addOf s c p .state .storage .tags ≡ s .storage .tags
+add-changes-no-set = add-tags
+
+pub add-gains-nothing : (s : State) (c : ℕ) (p : TagSet) → addOf s c p .answer .gain ≡ 0
+add-gains-nothing = add-gain
+
+-- LISTS OF CALLS: each call gets the header that the one before answered and the lists that it left, refused or not; it asks for one event, or adds a policy set, which is none
 pub each-call-gets-what-was-left : (s : State) (c : Call) (cs : List Call) → after s (c ∷ cs) ≡ after (outcomeOf s c .state) cs
 unfolding after
 each-call-gets-what-was-left s c cs = refl
@@ -188,6 +207,10 @@ each-call-gets-what-was-left s c cs = refl
 pub each-call-asks-for-its-event : (e : Event) (cs : List Call) → eventsOf (ask e ∷ cs) ≡ e ∷ eventsOf cs
 unfolding eventsOf
 each-call-asks-for-its-event e cs = refl
+
+pub adding-is-no-event : (c : ℕ) (p : TagSet) (cs : List Call) → eventsOf (add c p ∷ cs) ≡ eventsOf cs
+unfolding eventsOf
+adding-is-no-event c p cs = refl
 
 -- DEMANDS 2 AND 3, a list of calls on n containers, from any lent storage that starting accepted
 module _ (n : ℕ) (lent : Storage) (begun : startOf n lent .answer .refusal ≡ 0) (calls : List Call) where
@@ -204,8 +227,8 @@ module _ (n : ℕ) (lent : Storage) (begun : startOf n lent .answer .refusal ≡
   tracker-follows = calls-follow n calls empty (startOf n lent .state) (begun-follows n lent begun)
 
   -- DEMAND 1: so no call is refused for its storage or its state, and the lent storage past the lengths in use is as it was before starting
-  pub no-call-answers-9-or-12 : (e : Event) → (outcomeOf tracker (ask e) .answer .refusal ≢ 9) × (outcomeOf tracker (ask e) .answer .refusal ≢ 12)
-  no-call-answers-9-or-12 e = usable-answers tracker e (tracker-follows .usable)
+  pub no-call-answers-9-or-12 : (c : Call) → (outcomeOf tracker c .answer .refusal ≢ 9) × (outcomeOf tracker c .answer .refusal ≢ 12)
+  no-call-answers-9-or-12 c = usable-answers tracker c (tracker-follows .usable)
 
   pub tracker-writes-nothing-beyond : SameBeyond n (tracker .storage) lent
   tracker-writes-nothing-beyond = list-beyond n lent begun calls
@@ -253,6 +276,11 @@ pub what-disable-does : (s : State) (k : ℕ) (r : Answered)
     → leftBy r (s .storage .tags) (s .storage .policies) (s .storage .policyCounts) ≡ disableOf s k
     → DisableDoes s k (leftBy r (s .storage .tags) (s .storage .policies) (s .storage .policyCounts))
 what-disable-does s k r e = subst (DisableDoes s k) (sym e) (disable-does s k)
+
+-- `add_policy`, which is lent the tag sets to read alone: AddDoes (demand 1)
+pub what-add-policy-does : (s : State) (c : ℕ) (p : TagSet) (r : Answered) (policies counts : List ℕ) → leftBy r (s .storage .tags) policies counts ≡ addOf s c p
+    → AddDoes s c p (leftBy r (s .storage .tags) policies counts)
+what-add-policy-does s c p r policies counts e = subst (AddDoes s c p) (sym e) (add-does s c p)
 
 -- `apply_enable` and `apply_disable`, which judge no state. On every state they answer the first refusal that stands after 9 and 12 in the event's order,
 -- and a refused event changes nothing
@@ -343,20 +371,18 @@ module _ (n : ℕ) (lent : Storage) (calls : List Call) (s : State) (made : Call
   called-writes-nothing-beyond = rw (sym same-state) (tracker-writes-nothing-beyond n lent (called-is made .0) calls)
 
   -- the next call is refused neither for its storage nor for its state
-  pub called-answers-no-9-or-12 : (e : Event) (r : Answered) (tags : List ℕ)
-      → leftBy r tags (s .storage .policies) (s .storage .policyCounts) ≡ outcomeOf s (ask e)
+  pub called-answers-no-9-or-12 : (c : Call) (r : Answered) (tags policies counts : List ℕ) → leftBy r tags policies counts ≡ outcomeOf s c
       → (answerOf (r .reply) .refusal ≢ 9) × (answerOf (r .reply) .refusal ≢ 12)
-  called-answers-no-9-or-12 e r tags q =
-      subst (λ (o : Outcome). (o .answer .refusal ≢ 9) × (o .answer .refusal ≢ 12)) (sym q) (usable-answers s e (called-follows .usable))
+  called-answers-no-9-or-12 c r tags policies counts q =
+      subst (λ (o : Outcome). (o .answer .refusal ≢ 9) × (o .answer .refusal ≢ 12)) (sym q) (usable-answers s c (called-follows .usable))
 
   pub called-sets-are-flows : (c t : ℕ) → c < n → (has (setAt (s .storage .tags) c) t ≡ true) ↔ Flows n (accepted n (eventsOf calls)) t c
   called-sets-are-flows = rw (sym same-state) (sets-are-flows n lent (called-is made .0) calls)
 
   -- the next call that runs, whatever its event, is accepted exactly if the event joins
-  pub called-accepted-exactly-if-it-joins : (e : Event) (r : Answered) (tags : List ℕ)
-      → leftBy r tags (s .storage .policies) (s .storage .policyCounts) ≡ outcomeOf s (ask e)
+  pub called-accepted-exactly-if-it-joins : (e : Event) (r : Answered) (tags policies counts : List ℕ) → leftBy r tags policies counts ≡ outcomeOf s (ask e)
       → (answerOf (r .reply) .refusal ≡ 0) ↔ (joins n (accepted n (eventsOf calls)) e ≡ true)
-  called-accepted-exactly-if-it-joins e r tags q =
+  called-accepted-exactly-if-it-joins e r tags policies counts q =
       subst (λ (o : Outcome). (o .answer .refusal ≡ 0) ↔ (joins n (accepted n (eventsOf calls)) e ≡ true)) (sym q)
       (subst (λ (s : State). (outcomeOf s (ask e) .answer .refusal ≡ 0) ↔ (joins n (accepted n (eventsOf calls)) e ≡ true)) same-state
       (accepted-exactly-if-it-joins n lent (called-is made .0) calls e))

@@ -6,20 +6,22 @@ use mathlib.Core.Logic.{_↔_, _≢_}
 use Prim.Native.Nat.{ℕ, zero, suc, _+_}
 use native.Mathlib.Omega.{arith}
 use Rattle.model.specs.declared.Flow.{Flow}
-use Rattle.model.specs.Model.{Event, enable, disable, without}
+use Rattle.model.specs.Model.{enable, disable, without}
+use Rattle.tagset.specs.declared.TagSet.{TagSet}
 use Rattle.state.specs.State.{Storage, State, stateOf, flowsOf}
 use Rattle.state.specs.Layout.{Fit64}
 use Rattle.state.specs.IsValid.{IsValid, Usable}
 use Rattle.tagstore.specs.Store.{totalOf}
 use Rattle.tracker.specs.declared.Answered.{Answered}
 use Rattle.tracker.specs.declared.Reply.{Reply}
-use Rattle.tracker.specs.declared.Reply.the-variants.{Accepted, NoSuchContainer, SelfFlow, StaleNumber, TableFull, NotEnabled, BadSize, InvalidState}
+use Rattle.tracker.specs.declared.Reply.the-variants.{Accepted, NoSuchContainer, SelfFlow, StaleNumber, TableFull, NotEnabled, BadSize, PolicyFull, InvalidState}
 use Rattle.tracker.specs.Replies.{answerOf, givenBack, leftBy}
-use Rattle.outcome.specs.Outcome.{Outcome, noHeader, startOf, gainOf, enableOf, disableOf, Call, ask, outcomeOf, after}
-use Rattle.outcome.specs.Refusals.{start-refused, call-refused, call-cases}
-use Rattle.outcome.specs.Table.{StartAnswers, start-answers, EnableAnswers, enable-answers, DisableAnswers, disable-answers, bad-size, invalid-state, no-such-from, no-such-to, self-flow, stale-number, table-full, not-enabled, accepted}
-use Rattle.outcome.specs.Steps.{start-makes-usable, event-leaves-usable, call-keeps, Sentence, enable-sentence, disable-sentence, IsStarted, start-is-started, FlowsChanged, enable-flows, disable-flows}
-use Rattle.outcome.specs.Effects.{SameBeyond, disable-tags, enable-gain, disable-gain, start-beyond, call-beyond, start-gains-nothing, gain-counted, start-fits, call-fits}
+use Rattle.outcome.specs.Outcome.{Outcome, noHeader, startOf, gainOf, enableOf, disableOf, addOf, Call, ask, add, outcomeOf, after}
+use Rattle.outcome.specs.Refusals.{start-refused, call-refused}
+use Rattle.outcome.specs.Table.{StartAnswers, start-answers, EnableAnswers, enable-answers, DisableAnswers, disable-answers, AddAnswers, add-answers, bad-size, invalid-state, no-such-from, no-such-to, self-flow, stale-number, table-full, not-enabled, no-such-container, unknown-tag, policy-full, accepted}
+use Rattle.outcome.specs.Policies.{PolicyAdded}
+use Rattle.outcome.specs.Steps.{start-makes-usable, call-leaves-usable, call-keeps, Sentence, enable-sentence, disable-sentence, IsStarted, start-is-started, FlowsChanged, enable-flows, disable-flows, add-so}
+use Rattle.outcome.specs.Effects.{SameBeyond, disable-tags, add-tags, enable-gain, disable-gain, add-gain, start-beyond, call-beyond, start-gains-nothing, gain-counted, start-fits, call-fits}
 
 -- START: what is true of its outcome
 pub record StartDoes (n : ℕ) (lent : Storage) (o : Outcome) : Type 0 where
@@ -83,7 +85,7 @@ enable-does s f =
       gain = gain-counted s (ask (enable f));
       grows-by-the-gain = enable-gain s f;
       flows = enable-flows s f;
-      usable = event-leaves-usable s (enable f);
+      usable = call-leaves-usable s (ask (enable f));
       keeps-valid = call-keeps IsValid s (ask (enable f)) (λ s u. u .valid);
     }
 
@@ -101,21 +103,47 @@ disable-does s k =
             gain = gain-counted s (ask (disable k));
             grows-by-the-gain = rw (disable-tags s k) (omega (arith, disable-gain s k));
             flows = disable-flows s k;
-            usable = event-leaves-usable s (disable k);
+            usable = call-leaves-usable s (ask (disable k));
             keeps-valid = call-keeps IsValid s (ask (disable k)) (λ s u. u .valid);
           };
       gains-nothing = disable-gain s k;
       same-sets = disable-tags s k;
     }
 
--- CALLS ONE AFTER THE OTHER: a start that was accepted, then enables and disables, each on the header that the call before gave back and the
--- lists that it left, refused or not. What is known of each call is its contract's equation alone
+-- ADDING A POLICY SET, which is no event: an accepted one stands behind those that the container has, and nothing else changes
+pub record AddDoes (s : State) (c : ℕ) (p : TagSet) (o : Outcome) : Type 0 where
+  -- demand 1: the number by the paper's table; a refused call changes nothing
+  pub by-the-table : (k : ℕ) → (o .answer .refusal ≡ k) ↔ AddAnswers s c p k
+  pub refused : (k : ℕ) → o .answer .refusal ≡ suc k → o .state ≡ s
+  pub gains-nothing : o .answer .gain ≡ 0
+  pub nothing-beyond : SameBeyond (s .header .containers) (o .state .storage) (s .storage)
+  pub same-sets : o .state .storage .tags ≡ s .storage .tags
+  pub policy : o .answer .refusal ≡ 0 → PolicyAdded c p s (o .state)
+  pub usable : o .answer .refusal ≡ 0 → Usable (o .state)
+  pub keeps-valid : IsValid s → IsValid (o .state)
+
+pub add-does : (s : State) (c : ℕ) (p : TagSet) → AddDoes s c p (addOf s c p)
+unfolding outcomeOf
+add-does s c p =
+    record {
+      by-the-table = add-answers s c p;
+      refused = λ k e. call-refused s (add c p) k e .0;
+      gains-nothing = add-gain s c p;
+      nothing-beyond = call-beyond s (add c p);
+      same-sets = add-tags s c p;
+      policy = add-so s c p;
+      usable = call-leaves-usable s (add c p);
+      keeps-valid = call-keeps IsValid s (add c p) (λ s u. u .valid);
+    }
+
+-- CALLS ONE AFTER THE OTHER: a start that was accepted, then calls, each on the header that the call before gave back and the lists that it left,
+-- refused or not. What is known of each call is its contract's equation alone
 pub data Called (n : ℕ) (lent : Storage) : List Call → State → Type 0 where
   begun : (r : Answered) (tags policies counts : List ℕ) → leftBy r tags policies counts ≡ startOf n lent → answerOf (r .reply) .refusal ≡ 0
       → Called n lent [] (leftBy r tags policies counts .state)
-  called : {cs : List Call} {s : State} → Called n lent cs s → (c : Call) (r : Answered) (tags : List ℕ)
-      → leftBy r tags (s .storage .policies) (s .storage .policyCounts) ≡ outcomeOf s c
-      → Called n lent (cs ++ (c ∷ [])) (leftBy r tags (s .storage .policies) (s .storage .policyCounts) .state)
+  called : {cs : List Call} {s : State} → Called n lent cs s → (c : Call) (r : Answered) (tags policies counts : List ℕ)
+      → leftBy r tags policies counts ≡ outcomeOf s c
+      → Called n lent (cs ++ (c ∷ [])) (leftBy r tags policies counts .state)
 
 -- one call more at the end of a list
 after-last : (cs : List Call) (s : State) (c : Call) → after s (cs ++ (c ∷ [])) ≡ outcomeOf (after s cs) c .state
@@ -128,7 +156,7 @@ pub called-is : {n : ℕ} {lent : Storage} {cs : List Call} {s : State} → Call
     → (startOf n lent .answer .refusal ≡ 0) × (s ≡ after (startOf n lent .state) cs)
 unfolding after
 called-is (begun r tags policies counts e a) = (ap (λ (o : Outcome). o .answer .refusal) (sym e) ∙ a, ap (λ (o : Outcome). o .state) e)
-called-is {n} {lent} (called {cs} {s} x c r tags e) =
+called-is {n} {lent} (called {cs} {s} x c r tags policies counts e) =
     let w = called-is x in
     (w .0, ap (λ (o : Outcome). o .state) e ∙ ap (λ (t : State). outcomeOf t c .state) (w .1) ∙ sym (after-last cs (startOf n lent .state) c))
 
@@ -167,33 +195,27 @@ disable-reply s n (invalid-state z v) g = refusing InvalidState refl (g (λ e. o
 disable-reply s n (not-enabled u a) g = refusing NotEnabled refl (g (λ e. omega (arith, e)))
 disable-reply s n {gain = gain} (accepted u f i e) g = (Accepted gain, refl)
 
+add-reply : (s : State) (c : ℕ) (p : TagSet) {k gain : ℕ} → AddAnswers s c p k → (k ≢ 0 → gain ≡ 0) → HasReply k gain
+add-reply s c p (bad-size z) g = refusing BadSize refl (g (λ e. omega (arith, e)))
+add-reply s c p (invalid-state z v) g = refusing InvalidState refl (g (λ e. omega (arith, e)))
+add-reply s c p (no-such-container u a) g = refusing NoSuchContainer refl (g (λ e. omega (arith, e)))
+add-reply s c p (unknown-tag u a t h b) g = refusing NoSuchContainer refl (g (λ e. omega (arith, e)))
+add-reply s c p (policy-full u a h b) g = refusing PolicyFull refl (g (λ e. omega (arith, e)))
+add-reply s c p {gain = gain} (accepted e) g = (Accepted gain, refl)
+
 -- what a call asks for can be given back
 call-reply : (s : State) (c : Call) → HasReply (outcomeOf s c .answer .refusal) (outcomeOf s c .answer .gain)
 unfolding outcomeOf
 call-reply s (ask (enable f)) = enable-reply s f (enable-answers s f (enableOf s f .answer .refusal) .0 refl) (gains s (ask (enable f)))
 call-reply s (ask (disable k)) = disable-reply s k (disable-answers s k (disableOf s k .answer .refusal) .0 refl) (gains s (ask (disable k)))
-
--- policy sets and their counts stay
-call-policies : (s : State) (c : Call)
-    → (outcomeOf s c .state .storage .policies ≡ s .storage .policies) × (outcomeOf s c .state .storage .policyCounts ≡ s .storage .policyCounts)
-call-policies s (ask e) =
-    call-cases (λ x. (x .storage .policies ≡ s .storage .policies) × (x .storage .policyCounts ≡ s .storage .policyCounts)) s (ask e) (done e) (refl, refl)
-  where
-    done : (e : Event) → outcomeOf s (ask e) .answer .refusal ≡ 0
-        → (outcomeOf s (ask e) .state .storage .policies ≡ s .storage .policies) × (outcomeOf s (ask e) .state .storage .policyCounts ≡ s .storage .policyCounts)
-    done (enable f) a = let w = enable-flows s f a in (w .policies, w .counts)
-    done (disable k) a = let w = disable-flows s k a in (w .policies, w .counts)
+call-reply s (add c p) = add-reply s c p (add-answers s c p (addOf s c p .answer .refusal) .0 refl) (gains s (add c p))
 
 -- the outcome of a call is left by some answer and words
-call-left : (s : State) (c : Call) → (r : Answered) × (tags : List ℕ) × (leftBy r tags (s .storage .policies) (s .storage .policyCounts) ≡ outcomeOf s c)
+call-left : (s : State) (c : Call) → (r : Answered) × (leftBy r (outcomeOf s c .state .storage .tags) (outcomeOf s c .state .storage .policies) (outcomeOf s c .state .storage .policyCounts) ≡ outcomeOf s c)
 call-left s c =
     let o = outcomeOf s c in
     let w = call-reply s c in
-    let p = call-policies s c in (
-      givenBack (w .0) (o .state .header) (o .state .storage .flows),
-      o .state .storage .tags,
-      λ i. record { answer = w .1 i; state = stateOf (o .state .header) (o .state .storage .tags) (sym (p .0) i) (sym (p .1) i) (o .state .storage .flows) },
-    )
+    (givenBack (w .0) (o .state .header) (o .state .storage .flows), λ i. record { answer = w .1 i; state = o .state })
 
 -- so every list of calls can be called, from every start that is accepted
 pub called-of : (n : ℕ) (lent : Storage) → startOf n lent .answer .refusal ≡ 0 → (cs : List Call) → (s : State) × Called n lent cs s
@@ -209,5 +231,5 @@ called-of n lent a cs =
     from [] done s x = (s, subst (λ (ds : List Call). Called n lent ds s) (sym (append-nil done)) x)
     from (c ∷ cs) done s x =
         let w = call-left s c in
-        let y = from cs (done ++ (c ∷ [])) _ (called x c (w .0) (w .1) (w .2)) in
+        let y = from cs (done ++ (c ∷ [])) _ (called x c (w .0) _ _ _ (w .1)) in
         (y .0, subst (λ (ds : List Call). Called n lent ds (y .0)) (append-assoc done (c ∷ []) cs) (y .1))
