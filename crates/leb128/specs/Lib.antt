@@ -7,4 +7,3 @@ pub mod Refusals
 pub mod Output
 pub mod Part
 pub mod Laws
-pub mod Samples

@@ -1,5 +1,4 @@
 pub mod Outcome
-pub mod Bench
 pub mod Refusals
 pub mod Propagation
 pub mod Table
