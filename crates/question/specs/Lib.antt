@@ -1,0 +1,4 @@
+pub mod Question
+pub mod Replies
+pub mod Laws
+pub mod Finding
