@@ -2,15 +2,19 @@
 -- Definitions, words and laws are cited where they stand; the index of both is below the imports. Assumes nothing.
 use mathlib.Core.Path.{_≡_, refl, sym, _∙_, subst}
 use mathlib.Core.Bool.{true, false}
-use mathlib.Core.List.{List, [], _∷_, _++_}
+use mathlib.Core.List.{List, [], _∷_, _++_, map}
 use mathlib.Core.Logic.{_⊎_, _↔_, _≢_}
 use mathlib.Mathlib.Logic.Relation.{ReflTransGenᴰ}
 use Prim.Native.Nat.{ℕ, suc, _+_, _*_, _/_, _%_, _^_, _≤_, _<_}
 use native.Mathlib.Omega.{arith}
 use lib.Dec.{eqb}
-use lib.ListN.{length, getD}
+use lib.ListN.{length, getD, drop}
 use Rattle.truth.specs.Truth.{iff}
-use Rattle.refusal.specs.Order.{IsFirst}
+use Rattle.refusal.specs.Order.{firstOf, IsFirst}
+use Rattle.leb128.specs.Number.{IsBytes}
+use Rattle.eventlog.specs.declared.Event.{Event as LogEvent}
+use Rattle.eventlog.specs.Log.{logOf, headAt}
+use Rattle.eventlog.specs.LogLaws.{IsLog}
 use Rattle.model.specs.declared.Flow.{Flow}
 use Rattle.model.specs.Model.{_∈_, Event, enable, disable, History, empty, _▸_, enabled, edgesOf, Enabled, Enabled*, Flows, Execution, event, exec, configuration, without, greatest, joins, joined, accepted}
 use Rattle.model.specs.Reach.{reaches}
@@ -19,7 +23,7 @@ use Rattle.model.specs.Standing.{Standing, standing, without-part, enabled-flow
 use Rattle.model.specs.Histories.{accepted-last, joins-added, not-joins-same, flows-empty, flows-one, flows-next, accepted-each, accepted-inside, Accepted, Occurs, MayEnable, enable-joins, disable-joins, numbers-rise}
 use Rattle.model.specs.Propositions.{event-changes-nothing, exec-adds, exact-at, proposition-1, proposition-2}
 use Rattle.tagset.specs.declared.TagSet.{TagSet}
-use Rattle.tagset.specs.Set.{has, bitAt}
+use Rattle.tagset.specs.Set.{has, bitAt, emptySet, sizeOf}
 use Rattle.state.specs.State.{Storage, State, badSize, setAt, flowsOf}
 use Rattle.state.specs.Valid.{validOf}
 use Rattle.state.specs.Layout.{Fit64, set-bit, flows-first, flows-count}
@@ -41,6 +45,23 @@ use Rattle.outcome.specs.Stays.{settled}
 use Rattle.outcome.specs.Steps.{start-makes-usable, call-leaves-usable, call-keeps, usable-answers, Sentence, propagated-sentence, enable-sentence, disable-sentence, IsStarted, start-is-started, FlowsChanged, enable-flows, disable-flows, add-so}
 use Rattle.outcome.specs.Effects.{start-fits, call-fits, start-gains-nothing, SameBeyond, start-beyond, call-beyond, list-beyond, disable-tags, add-tags, gain-counted, enable-gain, disable-gain, add-gain}
 use Rattle.outcome.specs.Follows.{Follows, configuration-has, accepted-joins, calls-follow, begun-follows}
+use Rattle.question.specs.declared.Tags.{Tags}
+use Rattle.question.specs.declared.Size.{Size}
+use Rattle.question.specs.declared.Legal.{Legal}
+use Rattle.question.specs.Question.{questionOrder, tagsOf, sizeAsked, policiesOf, isLegal, legalOf}
+use Rattle.question.specs.Replies.{tagsReply, sizeReply, legalReply, tags-injective, size-injective, legal-injective}
+use Rattle.question.specs.Laws.{asked-number, QuestionAnswers, question-answers, tags-told, size-told, legal-told, tags-untold, size-untold, legal-untold, legal-exactly-if, no-policy-not-legal, policy-member}
+use Rattle.ranking.specs.declared.Ranked.{Ranked}
+use Rattle.ranking.specs.Ranking.{ranksBefore, rankingOf, rankOf}
+use Rattle.ranking.specs.Replies.{rankedReply, ranked-injective}
+use Rattle.ranking.specs.Sorted.{SortedBy}
+use Rattle.ranking.specs.Laws.{ranks-before-iff, ranking-length, ranking-members, ranking-sorted, ranking-once, ranking-unique, RankAnswers, rank-answers, rank-refused, rank-done}
+use Rattle.replay.specs.declared.Containers.{Containers}
+use Rattle.replay.specs.declared.Ending.{Ending}
+use Rattle.replay.specs.Replay.{callOf, replayOf}
+use Rattle.replay.specs.Replies.{endingOf, containersOf, ending-injective, containers-injective}
+use Rattle.replay.specs.Begin.{containersIn}
+use Rattle.replay.specs.Laws.{AllAccepted, gainsOf, ContainersAnswers, containers-answers, replay-not-begun, Replays, replay-does, replay-log, replay-log-refused, replay-usable, replay-containers, replay-beyond}
 
 -- THE DEFINITIONS: model/specs/Model.antt (containers, flows, executions; no word of a tracker) and Reach.antt; state/specs/State.antt and Valid.antt;
 -- outcome/specs/Outcome.antt; with tagset/specs/Set.antt and refusal/specs/Order.antt (`firstOf`, IsFirst). For the running calls: Replies.antt (what the
@@ -244,6 +265,15 @@ module _ (n : ℕ) (lent : Storage) (begun : startOf n lent .answer .refusal ≡
     λ p. configuration-has tracker c t .0 (tracker-follows .sets c t .1 p) .1,
   )
 
+  -- PERMISSION, by what data can do: a container may be sent exactly if one of its policy sets has every tag that Flows relates to it
+  pub legal-exactly-if-flows-permit : (c : ℕ) → c < n
+      → (isLegal tracker c ≡ true) ↔ ((p : TagSet) × (p ∈ policiesOf tracker c) × ((t : ℕ) → Flows n history t c → has p t ≡ true))
+  legal-exactly-if-flows-permit c l =
+      let w = legal-exactly-if tracker c in (
+        λ e. let v = w .0 e in (v .0, v .1, λ t f. v .2 t (sets-are-flows c t l .1 f)),
+        λ v. w .1 (v .0, v .1, λ t h. v .2 t (sets-are-flows c t l .0 h)),
+      )
+
   -- DEMAND 3. For every execution of the accepted history: its configuration is the tracker's exactly if no execution of that history puts a tag
   -- where this one does not; and there is an execution whose configuration is the tracker's
   pub demand-3 :
@@ -252,7 +282,121 @@ module _ (n : ℕ) (lent : Storage) (begun : startOf n lent .answer .refusal ≡
       × ((x : Execution history) × (configuration n x ≡ configurationOf tracker))
   demand-3 = exact-at n history (accepted-inside (accepted-each n (eventsOf calls))) (configurationOf tracker) (tracker-follows .sets)
 
--- THE RUNNING CALLS (src/lib.rt). The contract of each is one equation: what the call gives back and leaves in the lent lists (`leftBy`) makes up the
+-- QUESTIONS (question/specs/Question.antt) change nothing and carry no header.
+-- DEMAND 1: which number each answers, for every state and container; one that is refused answers the empty set, the size 0, no
+pub set-answers-by-the-table : (s : State) (c k : ℕ) → (tagsOf s c .refusal ≡ k) ↔ QuestionAnswers s c k
+unfolding tagsOf
+set-answers-by-the-table s c k = rw (asked-number emptySet (setAt (s .storage .tags) c) (firstOf (questionOrder s c) 0)) (question-answers s c k)
+
+pub size-answers-by-the-table : (s : State) (c k : ℕ) → (sizeAsked s c .refusal ≡ k) ↔ QuestionAnswers s c k
+unfolding sizeAsked
+size-answers-by-the-table s c k = rw (asked-number 0 (sizeOf (setAt (s .storage .tags) c)) (firstOf (questionOrder s c) 0)) (question-answers s c k)
+
+pub permission-answers-by-the-table : (s : State) (c k : ℕ) → (legalOf s c .refusal ≡ k) ↔ QuestionAnswers s c k
+unfolding legalOf
+permission-answers-by-the-table s c k = rw (asked-number false (isLegal s c) (firstOf (questionOrder s c) 0)) (question-answers s c k)
+
+pub a-question-tells : (s : State) (c : ℕ)
+    → (tagsOf s c .refusal ≡ 0 → tagsOf s c .value ≡ setAt (s .storage .tags) c)
+    × (sizeAsked s c .refusal ≡ 0 → sizeAsked s c .value ≡ sizeOf (setAt (s .storage .tags) c))
+    × (legalOf s c .refusal ≡ 0 → legalOf s c .value ≡ isLegal s c)
+a-question-tells s c = (tags-told s c, size-told s c, legal-told s c)
+
+pub a-refused-question-tells-nothing : (s : State) (c k : ℕ)
+    → (tagsOf s c .refusal ≡ suc k → tagsOf s c .value ≡ emptySet)
+    × (sizeAsked s c .refusal ≡ suc k → sizeAsked s c .value ≡ 0)
+    × (legalOf s c .refusal ≡ suc k → legalOf s c .value ≡ false)
+a-refused-question-tells-nothing s c k = (tags-untold s c k, size-untold s c k, legal-untold s c k)
+
+-- PERMISSION, document 001's rule: legal exactly if the tag set is part of at least one of the container's policy sets. The own tag is compared like any
+-- other; with no policy set the answer is no. Its policy sets are those that its count says, in the order of adding (`add-puts-the-set-last`)
+pub legal-rule : (s : State) (c : ℕ)
+    → (isLegal s c ≡ true) ↔ ((p : TagSet) × (p ∈ policiesOf s c) × ((t : ℕ) → has (setAt (s .storage .tags) c) t ≡ true → has p t ≡ true))
+legal-rule = legal-exactly-if
+
+pub without-policy-set-not-legal : (s : State) (c : ℕ) → getD (s .storage .policyCounts) c 0 ≡ 0 → isLegal s c ≡ false
+without-policy-set-not-legal = no-policy-not-legal
+
+pub policy-sets-are-stored : (s : State) (c : ℕ) (p : TagSet)
+    → (p ∈ policiesOf s c) ↔ ((k : ℕ) × (k < getD (s .storage .policyCounts) c 0) × (p ≡ setAt (s .storage .policies) (4 * c + k)))
+policy-sets-are-stored = policy-member
+
+-- THE RANKING (ranking/specs/Ranking.antt).
+-- DEMAND 1: which number it answers; a refusal leaves the output, and the places after the n numbers stay
+pub rank-answers-by-the-table : (s : State) (out : List ℕ) (k : ℕ) → (rankOf s out .refusal ≡ k) ↔ RankAnswers s out k
+rank-answers-by-the-table = rank-answers
+
+pub refused-rank-changes-nothing : (s : State) (out : List ℕ) (k : ℕ) → rankOf s out .refusal ≡ suc k → rankOf s out .output ≡ out
+refused-rank-changes-nothing = rank-refused
+
+pub rank-writes-the-ranking : (s : State) (out : List ℕ) → rankOf s out .refusal ≡ 0
+    → rankOf s out .output ≡ rankingOf (s .header .containers) (s .storage .tags) ++ drop (s .header .containers) out
+rank-writes-the-ranking = rank-done
+
+-- most tags first, among equal sizes the lower number first; it is a permutation of the containers, sorted by that relation, and no other list is
+pub comes-before-exactly-if : (ws : List ℕ) (a b : ℕ)
+    → (ranksBefore ws a b ≡ true) ↔ ((sizeOf (setAt ws b) < sizeOf (setAt ws a)) ⊎ ((sizeOf (setAt ws a) ≡ sizeOf (setAt ws b)) × (a < b)))
+comes-before-exactly-if = ranks-before-iff
+
+pub the-ranking-is-sorted : (n : ℕ) (ws : List ℕ) → SortedBy (ranksBefore ws) (rankingOf n ws)
+the-ranking-is-sorted = ranking-sorted
+
+pub the-ranking-is-a-permutation : (n : ℕ) (ws : List ℕ)
+    → (length (rankingOf n ws) ≡ n) × ((c : ℕ) → (c ∈ rankingOf n ws) ↔ (c < n))
+    × ((i j : ℕ) → i < n → j < n → getD (rankingOf n ws) i 0 ≡ getD (rankingOf n ws) j 0 → i ≡ j)
+the-ranking-is-a-permutation n ws = (ranking-length n ws, ranking-members n ws, ranking-once n ws)
+
+pub no-other-list-is : (n : ℕ) (ws : List ℕ) (xs : List ℕ) → SortedBy (ranksBefore ws) xs → ((c : ℕ) → (c ∈ xs) ↔ (c < n)) → xs ≡ rankingOf n ws
+no-other-list-is = ranking-unique
+
+-- REPLAY (replay/specs/Replay.antt).
+-- DEMAND 1: n is read and judged first; if n or the storage is refused, byte and header are 0 and nothing is written
+pub n-answers-by-the-table : (bs : List ℕ) (lent : Storage) (k : ℕ) → (containersIn bs lent .refusal ≡ k) ↔ ContainersAnswers bs lent k
+n-answers-by-the-table = containers-answers
+
+pub a-refused-n-changes-nothing : (bs : List ℕ) (lent : Storage) (k : ℕ) → containersIn bs lent .refusal ≡ suc k
+    → replayOf bs lent ≡ record { refusal = suc k; byte = 0; events = 0; gain = 0; state = record { header = record { containers = 0; count = 0; greatest = 0 }; storage = lent } }
+a-refused-n-changes-nothing = replay-not-begun
+
+-- DEMANDS 1 AND 2: otherwise the replay is starting and the calls of its records. Replays says it in the paper's words: the events done, each accepted, and
+-- the state, the gain and the number as after them; complete, the bytes are the log of n and those events; refused, the bytes before `byte` are, and there
+-- begins a record that cannot be read, or whose event is refused
+pub replay-is-starting-and-calls : (bs : List ℕ) (lent : Storage) → IsBytes bs → containersIn bs lent .refusal ≡ 0
+    → Replays bs (headAt bs .value) lent (replayOf bs lent)
+replay-is-starting-and-calls = replay-does
+
+-- and of a log of n and events: where all are accepted it is complete; the first that is refused ends it where its record begins, whatever follows
+pub an-accepted-log-is-complete : {bs : List ℕ} {n : ℕ} (lent : Storage) → IsSized n lent → {es : List LogEvent} → IsLog bs n es
+    → AllAccepted (startOf n lent .state) (map callOf es)
+    → replayOf bs lent
+    ≡ record {
+      refusal = 0;
+      byte = 0;
+      events = length es;
+      gain = gainsOf (startOf n lent .state) (map callOf es);
+      state = after (startOf n lent .state) (map callOf es);
+    }
+an-accepted-log-is-complete = replay-log
+
+pub a-refused-event-ends-the-log : {bs : List ℕ} {n : ℕ} (lent : Storage) → IsSized n lent → (ds : List LogEvent) (e : LogEvent) (es : List LogEvent) (k : ℕ)
+    → IsLog bs n (ds ++ (e ∷ es)) → AllAccepted (startOf n lent .state) (map callOf ds)
+    → outcomeOf (after (startOf n lent .state) (map callOf ds)) (callOf e) .answer .refusal ≡ suc k
+    → replayOf bs lent
+    ≡ record {
+      refusal = suc k;
+      byte = length (logOf n ds);
+      events = length ds;
+      gain = gainsOf (startOf n lent .state) (map callOf ds);
+      state = after (startOf n lent .state) (map callOf ds);
+    }
+a-refused-event-ends-the-log = replay-log-refused
+
+-- a replay leaves a usable state of n containers, and nothing past the lengths in use is written
+pub replay-leaves-valid : (bs : List ℕ) (lent : Storage) → containersIn bs lent .refusal ≡ 0
+    → Usable (replayOf bs lent .state) × (replayOf bs lent .state .header .containers ≡ headAt bs .value) × SameBeyond (headAt bs .value) (replayOf bs lent .state .storage) lent
+replay-leaves-valid bs lent b = (replay-usable bs lent b, replay-containers bs lent b, replay-beyond bs lent b)
+
+-- THE RUNNING CALLS (src/lib.rt of each crate). The contract of each is one equation: what the call gives back and leaves in the lent lists (`leftBy`) makes up the
 -- outcome of its definition, for every number and every content and length of storage. It is the hypothesis here; the reader compares it with the line
 -- `ensures` there. So what is claimed above of the definitions is true of the calls, one by one:
 
@@ -315,6 +459,17 @@ pub what-apply-disable-does : (s : State) → Usable s → (k : ℕ) (r : Answer
     → DisableDoes s k (leftBy r (s .storage .tags) (s .storage .policies) (s .storage .policyCounts))
 what-apply-disable-does s u k r e = what-disable-does s k r (e ∙ apply-disable s u k)
 
+-- `tags_of`, `size_of`, `is_legal`, `rank`, `read_containers`, `replay`: a contract gives the numbers of the answer (and the output, the lent lists) by the
+-- definition; these determine the answer
+pub the-numbers-tell-answers-apart :
+    ((q r : Tags) → tagsReply q ≡ tagsReply r → q ≡ r)
+    × ((q r : Size) → sizeReply q ≡ sizeReply r → q ≡ r)
+    × ((q r : Legal) → legalReply q ≡ legalReply r → q ≡ r)
+    × ((q r : Ranked) → rankedReply q ≡ rankedReply r → q ≡ r)
+    × ((q r : Containers) → containersOf q ≡ containersOf r → q ≡ r)
+    × ((q r : Ending) → endingOf q ≡ endingOf r → q ≡ r)
+the-numbers-tell-answers-apart = (tags-injective, size-injective, legal-injective, ranked-injective, containers-injective, ending-injective)
+
 -- PROPAGATION runs in passes. One pass gives each container what it had, and what the sources of its edges had when the pass began
 pub a-pass-reads-the-sets-found : (n : ℕ) (es : List (ℕ × ℕ)) (ws : List ℕ) → 4 * n ≤ length ws → (c t : ℕ) → c < n
     → (has (setAt (pass n es ws) c) t ≡ true)
@@ -358,7 +513,7 @@ pairs-counted-are-the-gain = passes-gain
 pub every-list-can-be-called : (n : ℕ) (lent : Storage) → startOf n lent .answer .refusal ≡ 0 → (calls : List Call) → (s : State) × Called n lent calls s
 every-list-can-be-called = called-of
 
--- DEMANDS 2 AND 3 of calls made one after the other, which left the state `s`
+-- DEMANDS 2 AND 3 of calls made one after the other, which left the state `s`; the list may begin with a replay, complete or refused partway, and go on
 module _ (n : ℕ) (lent : Storage) (calls : List Call) (s : State) (made : Called n lent calls s) where
   -- it is the tracker of the claims on lists of calls
   same-state : tracker n lent (called-is made .0) calls ≡ s

@@ -1,7 +1,7 @@
 -- The running calls. A call's contract (src/lib.rt) says that what it gives back and leaves makes up the outcome of its definition; so all that is
 -- claimed of the outcome is true of the call. Gathered here for each call, and for calls one after the other. Assumes nothing.
 use mathlib.Core.Path.{_≡_, refl, sym, ap, _∙_, subst}
-use mathlib.Core.List.{List, [], _∷_, _++_, append-assoc, append-nil}
+use mathlib.Core.List.{List, [], _∷_, _++_, map, append-assoc, append-nil}
 use mathlib.Core.Logic.{_↔_, _≢_}
 use Prim.Native.Nat.{ℕ, zero, suc, _+_}
 use native.Mathlib.Omega.{arith}
@@ -16,6 +16,13 @@ use Rattle.tracker.specs.declared.Answered.{Answered}
 use Rattle.tracker.specs.declared.Reply.{Reply}
 use Rattle.tracker.specs.declared.Reply.the-variants.{Accepted, NoSuchContainer, SelfFlow, StaleNumber, TableFull, NotEnabled, BadSize, PolicyFull, InvalidState}
 use Rattle.tracker.specs.Replies.{answerOf, givenBack, leftBy}
+use Rattle.leb128.specs.Number.{IsBytes}
+use Rattle.eventlog.specs.Log.{headAt}
+use Rattle.replay.specs.declared.Replayed.{Replayed}
+use Rattle.replay.specs.Replay.{Run, callOf, replayOf}
+use Rattle.replay.specs.Replies.{runBy}
+use Rattle.replay.specs.Begin.{containersIn}
+use Rattle.replay.specs.Laws.{replay-does, replay-starts}
 use Rattle.outcome.specs.Outcome.{Outcome, noHeader, startOf, gainOf, enableOf, disableOf, addOf, Call, ask, add, outcomeOf, after}
 use Rattle.outcome.specs.Refusals.{start-refused, call-refused}
 use Rattle.outcome.specs.Table.{StartAnswers, start-answers, EnableAnswers, enable-answers, DisableAnswers, disable-answers, AddAnswers, add-answers, bad-size, invalid-state, no-such-from, no-such-to, self-flow, stale-number, table-full, not-enabled, no-such-container, unknown-tag, policy-full, accepted}
@@ -136,11 +143,15 @@ add-does s c p =
       keeps-valid = call-keeps IsValid s (add c p) (λ s u. u .valid);
     }
 
--- CALLS ONE AFTER THE OTHER: a start that was accepted, then calls, each on the header that the call before gave back and the lists that it left,
--- refused or not. What is known of each call is its contract's equation alone
+-- CALLS ONE AFTER THE OTHER: a start that was accepted, or a replay whose n and storage were, complete or refused partway; then calls, each on the header
+-- that the call before gave back and the lists that it left, refused or not. What is known of each call is its contract's equation alone. A replay counts as
+-- starting and the calls of the events that it did
 pub data Called (n : ℕ) (lent : Storage) : List Call → State → Type 0 where
   begun : (r : Answered) (tags policies counts : List ℕ) → leftBy r tags policies counts ≡ startOf n lent → answerOf (r .reply) .refusal ≡ 0
       → Called n lent [] (leftBy r tags policies counts .state)
+  replayed : (bs : List ℕ) (are : IsBytes bs) (accepts : containersIn bs lent .refusal ≡ 0) → headAt bs .value ≡ n
+      → (r : Replayed) (tags policies counts : List ℕ) → runBy r tags policies counts ≡ replayOf bs lent
+      → Called n lent (map callOf (replay-does bs lent are accepts .done)) (runBy r tags policies counts .state)
   called : {cs : List Call} {s : State} → Called n lent cs s → (c : Call) (r : Answered) (tags policies counts : List ℕ)
       → leftBy r tags policies counts ≡ outcomeOf s c
       → Called n lent (cs ++ (c ∷ [])) (leftBy r tags policies counts .state)
@@ -156,6 +167,11 @@ pub called-is : {n : ℕ} {lent : Storage} {cs : List Call} {s : State} → Call
     → (startOf n lent .answer .refusal ≡ 0) × (s ≡ after (startOf n lent .state) cs)
 unfolding after
 called-is (begun r tags policies counts e a) = (ap (λ (o : Outcome). o .answer .refusal) (sym e) ∙ a, ap (λ (o : Outcome). o .state) e)
+called-is {n} {lent} (replayed bs are accepts e r tags policies counts q) =
+    let w = replay-does bs lent are accepts in (
+      ap (λ (m : ℕ). startOf m lent .answer .refusal) (sym e) ∙ replay-starts bs lent accepts,
+      ap (λ (x : Run). x .state) q ∙ w .state ∙ ap (λ (m : ℕ). after (startOf m lent .state) (map callOf (w .done))) e,
+    )
 called-is {n} {lent} (called {cs} {s} x c r tags policies counts e) =
     let w = called-is x in
     (w .0, ap (λ (o : Outcome). o .state) e ∙ ap (λ (t : State). outcomeOf t c .state) (w .1) ∙ sym (after-last cs (startOf n lent .state) c))

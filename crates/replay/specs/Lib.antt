@@ -1,0 +1,5 @@
+pub mod Replay
+pub mod Replies
+pub mod Steps
+pub mod Begin
+pub mod Laws
