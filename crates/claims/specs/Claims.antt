@@ -13,7 +13,7 @@ use Rattle.truth.specs.Truth.{iff}
 use Rattle.refusal.specs.Order.{firstOf, IsFirst}
 use Rattle.leb128.specs.Number.{IsBytes}
 use Rattle.eventlog.specs.declared.Event.{Event as LogEvent}
-use Rattle.eventlog.specs.Log.{logOf, headAt}
+use Rattle.eventlog.specs.Log.{logOf, headAt, eventsFrom}
 use Rattle.eventlog.specs.LogLaws.{IsLog}
 use Rattle.model.specs.declared.Flow.{Flow}
 use Rattle.model.specs.Model.{_∈_, Event, enable, disable, History, empty, _▸_, enabled, edgesOf, Enabled, Enabled*, Flows, Execution, event, exec, configuration, without, greatest, joins, joined, accepted}
@@ -36,7 +36,7 @@ use Rattle.tracker.specs.declared.Answered.{Answered}
 use Rattle.tracker.specs.Replies.{answerOf, answer-injective, leftBy}
 use Rattle.tracker.specs.Unjudged.{applyEnableOf, applyDisableOf}
 use Rattle.tracker.specs.UnjudgedLaws.{passes-propagate, passes-gain, apply-enable-refusal, apply-enable-refused, apply-disable-refusal, apply-disable-refused, apply-enable, apply-disable}
-use Rattle.claims.specs.Running.{StartDoes, start-does, EnableDoes, enable-does, DisableDoes, disable-does, AddDoes, add-does, Called, called-is, called-of}
+use Rattle.claims.specs.Running.{StartDoes, start-does, EnableDoes, enable-does, DisableDoes, disable-does, AddDoes, add-does, Called, called-is, called-of, called-after-replay}
 use Rattle.outcome.specs.Outcome.{Outcome, startOrder, enableLater, disableLater, startOf, propagated, gainOf, enableOf, disableOf, addOf, Call, ask, add, orderOf, outcomeOf, eventsOf, after, configurationOf}
 use Rattle.outcome.specs.Refusals.{start-refusal, start-refused, call-refusal, call-refused}
 use Rattle.outcome.specs.Table.{StartAnswers, start-answers, EnableAnswers, enable-answers, DisableAnswers, disable-answers, AddAnswers, add-answers}
@@ -58,10 +58,10 @@ use Rattle.ranking.specs.Sorted.{SortedBy}
 use Rattle.ranking.specs.Laws.{ranks-before-iff, ranking-length, ranking-members, ranking-sorted, ranking-once, ranking-unique, RankAnswers, rank-answers, rank-refused, rank-done}
 use Rattle.replay.specs.declared.Containers.{Containers}
 use Rattle.replay.specs.declared.Ending.{Ending}
-use Rattle.replay.specs.Replay.{callOf, replayOf}
+use Rattle.replay.specs.Replay.{eventIn, callOf, containersIn, replayOf}
 use Rattle.replay.specs.Replies.{endingOf, containersOf, ending-injective, containers-injective}
-use Rattle.replay.specs.Begin.{containersIn}
 use Rattle.replay.specs.Laws.{AllAccepted, gainsOf, ContainersAnswers, containers-answers, replay-not-begun, Replays, replay-does, replay-log, replay-log-refused, replay-usable, replay-containers, replay-beyond}
+use Rattle.replay.specs.Joins.{joining, doneOf, replay-done}
 
 -- THE DEFINITIONS: model/specs/Model.antt (containers, flows, executions; no word of a tracker) and Reach.antt; state/specs/State.antt and Valid.antt;
 -- outcome/specs/Outcome.antt; with tagset/specs/Set.antt and refusal/specs/Order.antt (`firstOf`, IsFirst). For the running calls: Replies.antt (what the
@@ -365,6 +365,21 @@ pub replay-is-starting-and-calls : (bs : List ℕ) (lent : Storage) → IsBytes 
     → Replays bs (headAt bs .value) lent (replayOf bs lent)
 replay-is-starting-and-calls = replay-does
 
+-- which events those are is found from n and the bytes alone: of the events that can be read, the first that join the history, up to one that does not
+pub the-events-done-are-those-that-join : (bs : List ℕ) (lent : Storage) (are : IsBytes bs) (b : containersIn bs lent .refusal ≡ 0)
+    → replay-does bs lent are b .done ≡ joining (headAt bs .value) empty (eventsFrom bs (headAt bs .next) .events)
+unfolding doneOf
+the-events-done-are-those-that-join = replay-done
+
+pub joining-goes-on : (n : ℕ) (h : History) (e : LogEvent) (es : List LogEvent) → joins n h (eventIn e) ≡ true
+    → joining n h (e ∷ es) ≡ e ∷ joining n (h ▸ eventIn e) es
+unfolding joining
+joining-goes-on n h e es j = rw j refl
+
+pub joining-stops : (n : ℕ) (h : History) (e : LogEvent) (es : List LogEvent) → joins n h (eventIn e) ≡ false → joining n h (e ∷ es) ≡ []
+unfolding joining
+joining-stops n h e es j = rw j refl
+
 -- and of a log of n and events: where all are accepted it is complete; the first that is refused ends it where its record begins, whatever follows
 pub an-accepted-log-is-complete : {bs : List ℕ} {n : ℕ} (lent : Storage) → IsSized n lent → {es : List LogEvent} → IsLog bs n es
     → AllAccepted (startOf n lent .state) (map callOf es)
@@ -509,9 +524,14 @@ pub pairs-counted-are-the-gain : (n : ℕ) (fs : List Flow) (ws : List ℕ) → 
     → pairsAdded n fs ws ≡ gainOf n ws (propagated n fs ws)
 pairs-counted-are-the-gain = passes-gain
 
--- CALLS ONE AFTER THE OTHER (`Called`) are known by their contracts alone. These can be met for every list of calls, from every start that is accepted
+-- CALLS ONE AFTER THE OTHER (`Called`) are known by their contracts alone. These can be met for every list of calls, from every start that is accepted and
+-- from every replay whose n and storage are
 pub every-list-can-be-called : (n : ℕ) (lent : Storage) → startOf n lent .answer .refusal ≡ 0 → (calls : List Call) → (s : State) × Called n lent calls s
 every-list-can-be-called = called-of
+
+pub every-list-can-go-on-after-a-replay : (bs : List ℕ) (lent : Storage) → IsBytes bs → containersIn bs lent .refusal ≡ 0 → (calls : List Call)
+    → (s : State) × Called (headAt bs .value) lent (map callOf (doneOf bs) ++ calls) s
+every-list-can-go-on-after-a-replay = called-after-replay
 
 -- DEMANDS 2 AND 3 of calls made one after the other, which left the state `s`; the list may begin with a replay, complete or refused partway, and go on
 module _ (n : ℕ) (lent : Storage) (calls : List Call) (s : State) (made : Called n lent calls s) where

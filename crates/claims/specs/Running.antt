@@ -1,9 +1,9 @@
 -- The running calls. A call's contract (src/lib.rt) says that what it gives back and leaves makes up the outcome of its definition; so all that is
 -- claimed of the outcome is true of the call. Gathered here for each call, and for calls one after the other. Assumes nothing.
-use mathlib.Core.Path.{_≡_, refl, sym, ap, _∙_, subst}
+use mathlib.Core.Path.{_≡_, refl, sym, ap, ap₂, _∙_, subst}
 use mathlib.Core.List.{List, [], _∷_, _++_, map, append-assoc, append-nil}
 use mathlib.Core.Logic.{_↔_, _≢_}
-use Prim.Native.Nat.{ℕ, zero, suc, _+_}
+use Prim.Native.Nat.{ℕ, zero, suc, _+_, _≤_}
 use native.Mathlib.Omega.{arith}
 use Rattle.model.specs.declared.Flow.{Flow}
 use Rattle.model.specs.Model.{enable, disable, without}
@@ -18,13 +18,17 @@ use Rattle.tracker.specs.declared.Reply.the-variants.{Accepted, NoSuchContainer
 use Rattle.tracker.specs.Replies.{answerOf, givenBack, leftBy}
 use Rattle.leb128.specs.Number.{IsBytes}
 use Rattle.eventlog.specs.Log.{headAt}
+use Rattle.eventlog.specs.declared.Event.{Event as LogEvent}
+use Rattle.replay.specs.declared.Ending.{Ending}
+use Rattle.replay.specs.declared.Ending.the-variants.{Complete, Truncated, Overlong, UnknownKind, NoSuchContainer as EndNoSuchContainer, SelfFlow as EndSelfFlow, StaleNumber as EndStaleNumber, TableFull as EndTableFull, NotEnabled as EndNotEnabled, BadSize as EndBadSize}
 use Rattle.replay.specs.declared.Replayed.{Replayed}
-use Rattle.replay.specs.Replay.{Run, callOf, replayOf}
-use Rattle.replay.specs.Replies.{runBy}
-use Rattle.replay.specs.Begin.{containersIn}
+use Rattle.replay.specs.Replay.{Run, callOf, containersIn, replayOf}
+use Rattle.replay.specs.Replies.{endingOf, runBy}
 use Rattle.replay.specs.Laws.{replay-does, replay-starts}
+use Rattle.replay.specs.Joins.{doneOf, replay-done}
+use Rattle.replay.specs.Numbers.{run-refusal}
 use Rattle.outcome.specs.Outcome.{Outcome, noHeader, startOf, gainOf, enableOf, disableOf, addOf, Call, ask, add, outcomeOf, after}
-use Rattle.outcome.specs.Refusals.{start-refused, call-refused}
+use Rattle.outcome.specs.Refusals.{start-refused, call-refused, call-unaccepted}
 use Rattle.outcome.specs.Table.{StartAnswers, start-answers, EnableAnswers, enable-answers, DisableAnswers, disable-answers, AddAnswers, add-answers, bad-size, invalid-state, no-such-from, no-such-to, self-flow, stale-number, table-full, not-enabled, no-such-container, unknown-tag, policy-full, accepted}
 use Rattle.outcome.specs.Policies.{PolicyAdded}
 use Rattle.outcome.specs.Steps.{start-makes-usable, call-leaves-usable, call-keeps, Sentence, enable-sentence, disable-sentence, IsStarted, start-is-started, FlowsChanged, enable-flows, disable-flows, add-so}
@@ -145,13 +149,13 @@ add-does s c p =
 
 -- CALLS ONE AFTER THE OTHER: a start that was accepted, or a replay whose n and storage were, complete or refused partway; then calls, each on the header
 -- that the call before gave back and the lists that it left, refused or not. What is known of each call is its contract's equation alone. A replay counts as
--- starting and the calls of the events that it did
+-- starting and the calls of its events: of those that its bytes hold, the first that join (`doneOf`), found from the bytes alone
 pub data Called (n : ℕ) (lent : Storage) : List Call → State → Type 0 where
   begun : (r : Answered) (tags policies counts : List ℕ) → leftBy r tags policies counts ≡ startOf n lent → answerOf (r .reply) .refusal ≡ 0
       → Called n lent [] (leftBy r tags policies counts .state)
   replayed : (bs : List ℕ) (are : IsBytes bs) (accepts : containersIn bs lent .refusal ≡ 0) → headAt bs .value ≡ n
       → (r : Replayed) (tags policies counts : List ℕ) → runBy r tags policies counts ≡ replayOf bs lent
-      → Called n lent (map callOf (replay-does bs lent are accepts .done)) (runBy r tags policies counts .state)
+      → Called n lent (map callOf (doneOf bs)) (runBy r tags policies counts .state)
   called : {cs : List Call} {s : State} → Called n lent cs s → (c : Call) (r : Answered) (tags policies counts : List ℕ)
       → leftBy r tags policies counts ≡ outcomeOf s c
       → Called n lent (cs ++ (c ∷ [])) (leftBy r tags policies counts .state)
@@ -170,7 +174,8 @@ called-is (begun r tags policies counts e a) = (ap (λ (o : Outcome). o .answer 
 called-is {n} {lent} (replayed bs are accepts e r tags policies counts q) =
     let w = replay-does bs lent are accepts in (
       ap (λ (m : ℕ). startOf m lent .answer .refusal) (sym e) ∙ replay-starts bs lent accepts,
-      ap (λ (x : Run). x .state) q ∙ w .state ∙ ap (λ (m : ℕ). after (startOf m lent .state) (map callOf (w .done))) e,
+      ap (λ (x : Run). x .state) q ∙ w .state
+          ∙ ap₂ (λ (m : ℕ) (es : List LogEvent). after (startOf m lent .state) (map callOf es)) e (replay-done bs lent are accepts),
     )
 called-is {n} {lent} (called {cs} {s} x c r tags policies counts e) =
     let w = called-is x in
@@ -185,14 +190,6 @@ HasReply k gain = (reply : Reply) × (answerOf reply ≡ record { refusal = k; g
 -- a refusal gains nothing
 refusing : {k gain : ℕ} (reply : Reply) → answerOf reply ≡ record { refusal = k; gain = 0 } → gain ≡ 0 → HasReply k gain
 refusing reply e g = (reply, rw g e)
-
--- a call that is refused gains nothing
-gains : (s : State) (c : Call) → outcomeOf s c .answer .refusal ≢ 0 → outcomeOf s c .answer .gain ≡ 0
-gains s c = go (outcomeOf s c .answer .refusal) refl
-  where
-    go : (k : ℕ) → outcomeOf s c .answer .refusal ≡ k → k ≢ 0 → outcomeOf s c .answer .gain ≡ 0
-    go zero e n = absurd (n refl)
-    go (suc k) e n = call-refused s c k e .1
 
 -- each number of the tables has its reply
 enable-reply : (s : State) (f : Flow) {k gain : ℕ} → EnableAnswers s f k → (k ≢ 0 → gain ≡ 0) → HasReply k gain
@@ -222,9 +219,9 @@ add-reply s c p {gain = gain} (accepted e) g = (Accepted gain, refl)
 -- what a call asks for can be given back
 call-reply : (s : State) (c : Call) → HasReply (outcomeOf s c .answer .refusal) (outcomeOf s c .answer .gain)
 unfolding outcomeOf
-call-reply s (ask (enable f)) = enable-reply s f (enable-answers s f (enableOf s f .answer .refusal) .0 refl) (gains s (ask (enable f)))
-call-reply s (ask (disable k)) = disable-reply s k (disable-answers s k (disableOf s k .answer .refusal) .0 refl) (gains s (ask (disable k)))
-call-reply s (add c p) = add-reply s c p (add-answers s c p (addOf s c p .answer .refusal) .0 refl) (gains s (add c p))
+call-reply s (ask (enable f)) = enable-reply s f (enable-answers s f (enableOf s f .answer .refusal) .0 refl) (λ n. call-unaccepted s (ask (enable f)) n .1)
+call-reply s (ask (disable k)) = disable-reply s k (disable-answers s k (disableOf s k .answer .refusal) .0 refl) (λ n. call-unaccepted s (ask (disable k)) n .1)
+call-reply s (add c p) = add-reply s c p (add-answers s c p (addOf s c p .answer .refusal) .0 refl) (λ n. call-unaccepted s (add c p) n .1)
 
 -- the outcome of a call is left by some answer and words
 call-left : (s : State) (c : Call) → (r : Answered) × (leftBy r (outcomeOf s c .state .storage .tags) (outcomeOf s c .state .storage .policies) (outcomeOf s c .state .storage .policyCounts) ≡ outcomeOf s c)
@@ -233,19 +230,51 @@ call-left s c =
     let w = call-reply s c in
     (givenBack (w .0) (o .state .header) (o .state .storage .flows), λ i. record { answer = w .1 i; state = o .state })
 
+-- the run of a replay is given back with some ending
+ending-of : (k : ℕ) → k ≤ 9 → (e : Ending) × (endingOf e ≡ k)
+ending-of zero l = (Complete, refl)
+ending-of (suc zero) l = (Truncated, refl)
+ending-of (suc (suc zero)) l = (Overlong, refl)
+ending-of (suc (suc (suc zero))) l = (UnknownKind, refl)
+ending-of (suc (suc (suc (suc zero)))) l = (EndNoSuchContainer, refl)
+ending-of (suc (suc (suc (suc (suc zero))))) l = (EndSelfFlow, refl)
+ending-of (suc (suc (suc (suc (suc (suc zero)))))) l = (EndStaleNumber, refl)
+ending-of (suc (suc (suc (suc (suc (suc (suc zero))))))) l = (EndTableFull, refl)
+ending-of (suc (suc (suc (suc (suc (suc (suc (suc zero)))))))) l = (EndNotEnabled, refl)
+ending-of (suc (suc (suc (suc (suc (suc (suc (suc (suc zero))))))))) l = (EndBadSize, refl)
+ending-of (suc (suc (suc (suc (suc (suc (suc (suc (suc (suc k)))))))))) l = absurd (omega (arith, l))
+
+replay-left : (bs : List ℕ) (lent : Storage) → IsBytes bs
+    → (r : Replayed)
+    × (runBy r (replayOf bs lent .state .storage .tags) (replayOf bs lent .state .storage .policies) (replayOf bs lent .state .storage .policyCounts) ≡ replayOf bs lent)
+replay-left bs lent are =
+    let x = replayOf bs lent in
+    let e = ending-of (x .refusal) (run-refusal bs lent are) in (
+      record { ending = e .0; byte = x .byte; events = x .events; gain = x .gain; header = x .state .header; flows = x .state .storage .flows },
+      λ i. record { refusal = e .1 i; byte = x .byte; events = x .events; gain = x .gain; state = x .state },
+    )
+
+-- calls go on after calls
+called-on : (n : ℕ) (lent : Storage) (done : List Call) (s : State) → Called n lent done s → (cs : List Call) → (s : State) × Called n lent (done ++ cs) s
+called-on n lent done s x [] = (s, subst (λ (ds : List Call). Called n lent ds s) (sym (append-nil done)) x)
+called-on n lent done s x (c ∷ cs) =
+    let w = call-left s c in
+    let y = called-on n lent (done ++ (c ∷ [])) _ (called x c (w .0) _ _ _ (w .1)) cs in
+    (y .0, subst (λ (ds : List Call). Called n lent ds (y .0)) (append-assoc done (c ∷ []) cs) (y .1))
+
 -- so every list of calls can be called, from every start that is accepted
 pub called-of : (n : ℕ) (lent : Storage) → startOf n lent .answer .refusal ≡ 0 → (cs : List Call) → (s : State) × Called n lent cs s
 called-of n lent a cs =
-    from cs [] _
+    called-on n lent [] _
     (begun (givenBack (Accepted (o .answer .gain)) (o .state .header) (o .state .storage .flows)) (o .state .storage .tags) (o .state .storage .policies)
     (o .state .storage .policyCounts) (λ i. record { answer = record { refusal = sym a i; gain = o .answer .gain }; state = o .state }) refl)
+    cs
   where
     o : Outcome
     o = startOf n lent
 
-    from : (cs done : List Call) (s : State) → Called n lent done s → (s : State) × Called n lent (done ++ cs) s
-    from [] done s x = (s, subst (λ (ds : List Call). Called n lent ds s) (sym (append-nil done)) x)
-    from (c ∷ cs) done s x =
-        let w = call-left s c in
-        let y = from cs (done ++ (c ∷ [])) _ (called x c (w .0) _ _ _ (w .1)) in
-        (y .0, subst (λ (ds : List Call). Called n lent ds (y .0)) (append-assoc done (c ∷ []) cs) (y .1))
+-- and from every replay whose n and storage are accepted
+pub called-after-replay : (bs : List ℕ) (lent : Storage) → IsBytes bs → containersIn bs lent .refusal ≡ 0 → (cs : List Call)
+    → (s : State) × Called (headAt bs .value) lent (map callOf (doneOf bs) ++ cs) s
+called-after-replay bs lent are b cs =
+    let w = replay-left bs lent are in called-on (headAt bs .value) lent (map callOf (doneOf bs)) _ (replayed bs are b refl (w .0) _ _ _ (w .1)) cs

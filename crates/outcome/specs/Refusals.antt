@@ -1,7 +1,7 @@
 -- A refused call changes nothing, and the refusal answered is the first whose condition holds. Assumes nothing.
 use mathlib.Core.Path.{_≡_, refl, sym}
 use mathlib.Core.Bool.{Bool}
-use mathlib.Core.Logic.{_↔_}
+use mathlib.Core.Logic.{_↔_, _≢_}
 use mathlib.Core.List.{List}
 use Prim.Native.Nat.{ℕ, zero, suc}
 use native.Mathlib.Nat.{suc-ne-zero}
@@ -58,6 +58,14 @@ start-refused n lent k = decided-refused (firstOf (startOrder n lent) 0) (record
 
 pub call-refused : (s : State) (c : Call) (k : ℕ) → outcomeOf s c .answer .refusal ≡ suc k → (outcomeOf s c .state ≡ s) × (outcomeOf s c .answer .gain ≡ 0)
 call-refused s c k = let w = outcome-decided s c in rw (w .2) (decided-refused (firstOf (orderOf s c) 0) s (w .0) (w .1) k)
+
+-- the same where the number is not known
+pub call-unaccepted : (s : State) (c : Call) → outcomeOf s c .answer .refusal ≢ 0 → (outcomeOf s c .state ≡ s) × (outcomeOf s c .answer .gain ≡ 0)
+call-unaccepted s c = go (outcomeOf s c .answer .refusal) refl
+  where
+    go : (k : ℕ) → outcomeOf s c .answer .refusal ≡ k → k ≢ 0 → (outcomeOf s c .state ≡ s) × (outcomeOf s c .answer .gain ≡ 0)
+    go zero e n = absurd (n refl)
+    go (suc k) e n = call-refused s c k e
 
 -- so what holds before a call, and after it where it is accepted, holds after it
 pub start-cases : (P : Storage → Type 0) (n : ℕ) (lent : Storage) → (startOf n lent .answer .refusal ≡ 0 → P (startOf n lent .state .storage)) → P lent

@@ -3,3 +3,5 @@ pub mod Replies
 pub mod Steps
 pub mod Begin
 pub mod Laws
+pub mod Joins
+pub mod Numbers
