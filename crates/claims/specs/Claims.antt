@@ -24,7 +24,7 @@ use Rattle.model.specs.Histories.{accepted-last, joins-added, not-joins-same, f
 use Rattle.model.specs.Propositions.{event-changes-nothing, exec-adds, exact-at, proposition-1, proposition-2}
 use Rattle.tagset.specs.declared.TagSet.{TagSet}
 use Rattle.tagset.specs.Set.{has, bitAt, emptySet, sizeOf}
-use Rattle.state.specs.State.{Storage, State, badSize, setAt, flowsOf}
+use Rattle.state.specs.State.{Storage, State, badSize, setAt, policyCount, policyAt, flowsOf}
 use Rattle.state.specs.Valid.{validOf}
 use Rattle.state.specs.Layout.{Fit64, set-bit, flows-first, flows-count}
 use Rattle.state.specs.IsValid.{IsSized, sized, IsValid, valid, Usable}
@@ -52,9 +52,8 @@ use Rattle.question.specs.Question.{questionOrder, tagsOf, sizeAsked, policiesO
 use Rattle.question.specs.Replies.{tagsReply, sizeReply, legalReply, tags-injective, size-injective, legal-injective}
 use Rattle.question.specs.Laws.{asked-number, QuestionAnswers, question-answers, tags-told, size-told, legal-told, tags-untold, size-untold, legal-untold, legal-exactly-if, no-policy-not-legal, policy-member}
 use Rattle.ranking.specs.declared.Ranked.{Ranked}
-use Rattle.ranking.specs.Ranking.{ranksBefore, rankingOf, rankOf}
+use Rattle.ranking.specs.Ranking.{ranksBefore, rankingOf, SortedBy, rankOf}
 use Rattle.ranking.specs.Replies.{rankedReply, ranked-injective}
-use Rattle.ranking.specs.Sorted.{SortedBy}
 use Rattle.ranking.specs.Laws.{ranks-before-iff, ranking-length, ranking-members, ranking-sorted, ranking-once, ranking-unique, RankAnswers, rank-answers, rank-refused, rank-done}
 use Rattle.replay.specs.declared.Containers.{Containers}
 use Rattle.replay.specs.declared.Ending.{Ending}
@@ -314,11 +313,11 @@ pub legal-rule : (s : State) (c : ℕ)
     → (isLegal s c ≡ true) ↔ ((p : TagSet) × (p ∈ policiesOf s c) × ((t : ℕ) → has (setAt (s .storage .tags) c) t ≡ true → has p t ≡ true))
 legal-rule = legal-exactly-if
 
-pub without-policy-set-not-legal : (s : State) (c : ℕ) → getD (s .storage .policyCounts) c 0 ≡ 0 → isLegal s c ≡ false
+pub without-policy-set-not-legal : (s : State) (c : ℕ) → policyCount s c ≡ 0 → isLegal s c ≡ false
 without-policy-set-not-legal = no-policy-not-legal
 
 pub policy-sets-are-stored : (s : State) (c : ℕ) (p : TagSet)
-    → (p ∈ policiesOf s c) ↔ ((k : ℕ) × (k < getD (s .storage .policyCounts) c 0) × (p ≡ setAt (s .storage .policies) (4 * c + k)))
+    → (p ∈ policiesOf s c) ↔ ((k : ℕ) × (k < policyCount s c) × (p ≡ policyAt s c k))
 policy-sets-are-stored = policy-member
 
 -- THE RANKING (ranking/specs/Ranking.antt).

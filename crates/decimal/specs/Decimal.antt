@@ -14,10 +14,11 @@ unfoldable pub decimalOf : ℕ → List ℕ
 unfolding digits
 decimalOf v = digits v v
 
--- the number that digits stand for
+-- the number that digits stand for, behind digits that stand for v, and by themselves
+unfoldable pub readOn : ℕ → List ℕ → ℕ
+readOn v [] = v
+readOn v (d ∷ ds) = readOn (10 * v + (d - 48)) ds
+
 unfoldable pub numberOf : List ℕ → ℕ
+unfolding readOn
 numberOf ds = readOn 0 ds
-  where
-    readOn : ℕ → List ℕ → ℕ
-    readOn v [] = v
-    readOn v (d ∷ ds) = readOn (10 * v + (d - 48)) ds

@@ -12,7 +12,7 @@ use lib.Dec.{ltb, lit<, lit≤}
 use lib.ListN.{length, getD, length-append, List·getD-append}
 use lib.Seq.{getD-at}
 use borrow.Author.Tests.{lt-ltb, le-ltb, ltb-true, ltb-false}
-use Rattle.decimal.specs.Decimal.{digits, decimalOf, numberOf}
+use Rattle.decimal.specs.Decimal.{digits, decimalOf, numberOf, readOn}
 
 -- one step of the recursion
 module _ (d v : ℕ) where
@@ -73,11 +73,6 @@ decimal-length v h = ap length (decimal-more v h) ∙ length-append (decimalOf (
 -- there is always a digit
 pub decimal-some : (v : ℕ) → 1 ≤ length (decimalOf v)
 decimal-some = by-digits (λ v. 1 ≤ length (decimalOf v)) (λ v h. rw decimal-last (le-refl 1)) (λ v h ih. omega (arith, decimal-length v h))
-
--- the number that digits stand for, behind digits that stand for v
-readOn : ℕ → List ℕ → ℕ
-readOn v [] = v
-readOn v (d ∷ ds) = readOn (10 * v + (d - 48)) ds
 
 -- one digit more at the end of them
 read-more : (v : ℕ) (ds : List ℕ) (d : ℕ) → readOn v (ds ++ (d ∷ [])) ≡ 10 * readOn v ds + (d - 48)

@@ -176,7 +176,7 @@ pub disable-tags : (s : State) (k : ℕ) → outcomeOf s (ask (disable k)) .stat
 unfolding outcomeOf disableOf disabling changed
 disable-tags s k = decided-keeps (λ s. s .storage .tags) (firstOf (disableOrder s k) 0) s _ _ refl
 
--- so does adding a policy set, and it leaves every record of the flow table
+-- so does adding a policy set
 pub add-tags : (s : State) (c : ℕ) (p : TagSet) → addOf s c p .state .storage .tags ≡ s .storage .tags
 unfolding addOf adding
 add-tags s c p = decided-keeps (λ s. s .storage .tags) (firstOf (addOrder s c p) 0) s _ _ refl

@@ -3,7 +3,7 @@ use mathlib.Core.Bool.{Bool, _&&_, not, cond}
 use mathlib.Core.List.{List, [], _∷_, _++_}
 use Prim.Native.Nat.{ℕ, zero, suc, _+_, _*_}
 use lib.Dec.{leb, ltb, eqb}
-use lib.ListN.{length, getD, set, drop, replicate}
+use lib.ListN.{length, set, drop, replicate}
 use Rattle.refusal.specs.Order.{firstOf}
 use Rattle.model.specs.declared.Flow.{Flow}
 use Rattle.model.specs.Model.{Event, enable, disable, Configuration, edgesOf, without, isEnabled}
@@ -11,7 +11,7 @@ use Rattle.model.specs.Reach.{reachable, cell}
 use Rattle.tagset.specs.declared.TagSet.{TagSet}
 use Rattle.tagset.specs.Set.{has, emptySet, singleOf, unionOf, exceedsOf, countBelow}
 use Rattle.state.specs.declared.Header.{Header}
-use Rattle.state.specs.State.{Storage, State, badSize, setAt, withSets, flowsOf, withFlows}
+use Rattle.state.specs.State.{Storage, State, badSize, setAt, policyCount, withSets, flowsOf, withFlows}
 use Rattle.state.specs.Valid.{stateOrder}
 use Rattle.tagstore.specs.Store.{putSet}
 
@@ -128,10 +128,6 @@ unfoldable pub disableOf : State → ℕ → Outcome
 disableOf s k = decided (firstOf (disableOrder s k) 0) s 0 (disabling s k)
 
 -- ADDING A POLICY SET (document 01: a permitted set)
-
--- how many policy sets a container has
-abbrev pub policyCount : State → ℕ → ℕ
-policyCount s c = getD (s .storage .policyCounts) c 0
 
 -- 'Adding a set: 9, 12, 4 for the holder, 4 for the set, 11'
 unfoldable pub addLater : State → ℕ → TagSet → List (Bool × ℕ)

@@ -12,10 +12,10 @@ use Rattle.refusal.specs.Order.{firstOf}
 use Rattle.tagset.specs.declared.TagSet.{TagSet}
 use Rattle.tagset.specs.Set.{has}
 use Rattle.state.specs.declared.Header.{Header}
-use Rattle.state.specs.State.{State, setAt, flowsOf}
+use Rattle.state.specs.State.{State, policyCount, policyAt, setAt, flowsOf}
 use Rattle.state.specs.IsValid.{IsValid, Usable}
 use Rattle.tagstore.specs.Laws.{put-length, put-other, put-has, put-other-set, put-beyond}
-use Rattle.outcome.specs.Outcome.{policyCount, addOrder, adding, addOf}
+use Rattle.outcome.specs.Outcome.{addOrder, adding, addOf}
 use Rattle.outcome.specs.Refusals.{decided-done}
 use Rattle.outcome.specs.Table.{Adds, AddAnswers, add-answers, accepted}
 
@@ -37,7 +37,7 @@ pub record PolicyAdded (c : ℕ) (p : TagSet) (s s' : State) : Type 0 where
   pub tags : s' .storage .tags ≡ s .storage .tags
   pub flows : s' .storage .flows ≡ s .storage .flows
   pub one-more : policyCount s' c ≡ policyCount s c + 1
-  pub last : (t : ℕ) → has (setAt (s' .storage .policies) (4 * c + policyCount s c)) t ≡ has p t
+  pub last : (t : ℕ) → has (policyAt s' c (policyCount s c)) t ≡ has p t
   pub other-counts : (d : ℕ) → d ≢ c → policyCount s' d ≡ policyCount s d
   pub other-sets : (k : ℕ) → k ≢ 4 * c + policyCount s c → setAt (s' .storage .policies) k ≡ setAt (s .storage .policies) k
 

@@ -15,7 +15,7 @@ use Rattle.model.specs.Closure.{Within, reaches-sound, reaches-complete}
 use Rattle.model.specs.Standing.{without-part}
 use Rattle.tagset.specs.declared.TagSet.{TagSet}
 use Rattle.tagset.specs.Set.{has}
-use Rattle.state.specs.State.{Storage, State, setAt, flowsOf, noFlow}
+use Rattle.state.specs.State.{Storage, State, setAt, policyCount, flowsOf, noFlow}
 use Rattle.state.specs.Layout.{front-at}
 use Rattle.state.specs.IsValid.{IsSized, Usable}
 use Rattle.outcome.specs.Outcome.{noHeader, startOrder, started, startOf, propagated, changed, enabling, disabling, enableOrder, enableOf, disableOrder, disableOf, addOf, Call, ask, add, outcomeOf}
@@ -161,7 +161,7 @@ pub record IsStarted (n : ℕ) (s : State) : Type 0 where
   pub no-flows : s .header .count ≡ 0
   pub no-number : s .header .greatest ≡ 0
   pub own-alone : (c t : ℕ) → c < n → has (setAt (s .storage .tags) c) t ≡ eqb t c
-  pub no-policies : (c : ℕ) → c < n → getD (s .storage .policyCounts) c 0 ≡ 0
+  pub no-policies : (c : ℕ) → c < n → policyCount s c ≡ 0
   pub zero-policies : (i : ℕ) → i < 16 * n → getD (s .storage .policies) i 0 ≡ 0
   pub zero-flows : (i : ℕ) → i < 512 → getD (s .storage .flows) i noFlow ≡ noFlow
 

@@ -16,10 +16,10 @@ use Rattle.model.specs.Standing.{enabled-number, number-enabled}
 use Rattle.tagset.specs.declared.TagSet.{TagSet}
 use Rattle.tagset.specs.Set.{has, exceedsOf}
 use Rattle.tagset.specs.Laws.{exceeds-of-tag, exceeds-tag, not-exceeds, not-exceeds-of-has}
-use Rattle.state.specs.State.{Storage, State, flowsOf}
+use Rattle.state.specs.State.{Storage, State, policyCount, flowsOf}
 use Rattle.state.specs.IsValid.{IsSized, sized, ProperEnds, IsValid, Usable}
 use Rattle.state.specs.Judging.{too-short, size-cases, by-state, short-first, invalid-first, usable-first}
-use Rattle.outcome.specs.Outcome.{noHeader, startOrder, started, startOf, enableLater, enableOrder, enabling, enableOf, disableLater, disableOrder, disabling, disableOf, policyCount, addLater, addOrder, adding, addOf}
+use Rattle.outcome.specs.Outcome.{noHeader, startOrder, started, startOf, enableLater, enableOrder, enabling, enableOf, disableLater, disableOrder, disabling, disableOf, addLater, addOrder, adding, addOf}
 use Rattle.outcome.specs.Refusals.{decided-number}
 
 -- 'Starting: 9'

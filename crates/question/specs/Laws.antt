@@ -16,7 +16,7 @@ use Rattle.model.specs.Reach.{tabulate}
 use Rattle.model.specs.Closure.{tabulate-length}
 use Rattle.tagset.specs.declared.TagSet.{TagSet}
 use Rattle.tagset.specs.Set.{has, emptySet, subsetOf, sizeOf}
-use Rattle.state.specs.State.{State, setAt}
+use Rattle.state.specs.State.{State, setAt, policyCount, policyAt}
 use Rattle.state.specs.IsValid.{IsSized, IsValid, Usable, subset-iff}
 use Rattle.state.specs.Judging.{by-state, short-first, invalid-first, usable-first}
 use Rattle.question.specs.Question.{Asked, questionLater, questionOrder, asked, tagsOf, sizeAsked, anyOf, policiesOf, isLegal, legalOf}
@@ -84,20 +84,20 @@ legal-exactly-if s c =
 
 -- a container's policy sets are those in its first places, as many as it has
 pub policy-member : (s : State) (c : ℕ) (p : TagSet)
-    → (p ∈ policiesOf s c) ↔ ((k : ℕ) × (k < getD (s .storage .policyCounts) c 0) × (p ≡ setAt (s .storage .policies) (4 * c + k)))
+    → (p ∈ policiesOf s c) ↔ ((k : ℕ) × (k < policyCount s c) × (p ≡ policyAt s c k))
 unfolding policiesOf
-policy-member s c p = tabulate-member (getD (s .storage .policyCounts) c 0) (λ k. setAt (s .storage .policies) (4 * c + k)) p
+policy-member s c p = tabulate-member (policyCount s c) (policyAt s c) p
 
 -- and there are no more and no fewer
-pub policy-count : (s : State) (c : ℕ) → length (policiesOf s c) ≡ getD (s .storage .policyCounts) c 0
+pub policy-count : (s : State) (c : ℕ) → length (policiesOf s c) ≡ policyCount s c
 unfolding policiesOf
-policy-count s c = tabulate-length (getD (s .storage .policyCounts) c 0) (λ k. setAt (s .storage .policies) (4 * c + k))
+policy-count s c = tabulate-length (policyCount s c) (policyAt s c)
 
 -- a container with no policy set is not legal
-pub no-policy-not-legal : (s : State) (c : ℕ) → getD (s .storage .policyCounts) c 0 ≡ 0 → isLegal s c ≡ false
+pub no-policy-not-legal : (s : State) (c : ℕ) → policyCount s c ≡ 0 → isLegal s c ≡ false
 unfolding isLegal policiesOf
 no-policy-not-legal s c e =
-    any-none (subsetOf (setAt (s .storage .tags) c)) (getD (s .storage .policyCounts) c 0) (λ k. setAt (s .storage .policies) (4 * c + k))
+    any-none (subsetOf (setAt (s .storage .tags) c)) (policyCount s c) (policyAt s c)
     (λ k l. absurd (omega (arith, e, l)))
 
 -- WHAT IS ANSWERED AND WHAT IS REFUSED

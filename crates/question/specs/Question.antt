@@ -2,14 +2,13 @@
 -- whether it may be sent. A question changes nothing, and its answer carries no header. Assumes nothing.
 use mathlib.Core.Bool.{Bool, false, _||_}
 use mathlib.Core.List.{List, [], _∷_, _++_}
-use Prim.Native.Nat.{ℕ, zero, suc, _+_, _*_}
+use Prim.Native.Nat.{ℕ, zero, suc}
 use lib.Dec.{leb}
-use lib.ListN.{getD}
 use Rattle.refusal.specs.Order.{firstOf}
 use Rattle.model.specs.Reach.{tabulate}
 use Rattle.tagset.specs.declared.TagSet.{TagSet}
 use Rattle.tagset.specs.Set.{emptySet, subsetOf, sizeOf}
-use Rattle.state.specs.State.{State, setAt}
+use Rattle.state.specs.State.{State, setAt, policyCount, policyAt}
 use Rattle.state.specs.Valid.{stateOrder}
 
 -- the refusal's number, 0 where the question is answered, and what is answered
@@ -44,7 +43,7 @@ anyOf p (x ∷ xs) = p x || anyOf p xs
 
 -- a container's policy sets (document 001: its policy tag), 'in the order of adding': as many as it has by its count
 unfoldable pub policiesOf : State → ℕ → List TagSet
-policiesOf s c = tabulate (getD (s .storage .policyCounts) c 0) (λ k. setAt (s .storage .policies) (4 * c + k))
+policiesOf s c = tabulate (policyCount s c) (policyAt s c)
 
 -- document 001: 'legal if and only if its information tag is included in at least one of the sets of its policy tag'
 unfoldable pub isLegal : State → ℕ → Bool

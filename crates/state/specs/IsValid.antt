@@ -15,7 +15,7 @@ use Rattle.tagset.specs.declared.TagSet.{TagSet}
 use Rattle.tagset.specs.Below.{all-at, all-make}
 use Rattle.tagset.specs.Laws.{implies-iff, subset-has, subset-of-has, not-exceeds, not-exceeds-of-has}
 use Rattle.tagset.specs.Set.{has, allBelow, subsetOf, exceedsOf}
-use Rattle.state.specs.State.{Storage, State, shortOf, badSize, setAt, flowsOf, noFlow}
+use Rattle.state.specs.State.{Storage, State, shortOf, badSize, setAt, policyCount, policyAt, flowsOf, noFlow}
 use Rattle.state.specs.Valid.{allOf, risingFrom, inLimits, countsInLimits, numbersRise, endsProper, tagsKnown, ownTags, setsCarried, isNoFlow, unusedZero, validOf}
 
 -- Tests, each with what it says
@@ -135,7 +135,7 @@ pub record IsValid (s : State) : Type 0 where
   pub most : s .header .containers ≤ 256
   -- 'counts are at most 512 and 4'
   pub table-count : s .header .count ≤ 512
-  pub policy-counts : (c : ℕ) → c < s .header .containers → getD (s .storage .policyCounts) c 0 ≤ 4
+  pub policy-counts : (c : ℕ) → c < s .header .containers → policyCount s c ≤ 4
   -- 'channel numbers rise strictly from at least 1 and don't pass the greatest'
   pub rising : Rising 0 (flowsOf s)
   pub not-past : (f : Flow) → f ∈ flowsOf s → f .number ≤ s .header .greatest
@@ -143,7 +143,7 @@ pub record IsValid (s : State) : Type 0 where
   pub ends : (f : Flow) → f ∈ flowsOf s → ProperEnds (s .header .containers) f
   -- 'no set names a tag of n or more'
   pub known-tags : (c t : ℕ) → c < s .header .containers → has (setAt (s .storage .tags) c) t ≡ true → t < s .header .containers
-  pub known-policies : (c k t : ℕ) → c < s .header .containers → k < getD (s .storage .policyCounts) c 0 → has (setAt (s .storage .policies) (4 * c + k)) t ≡ true
+  pub known-policies : (c k t : ℕ) → c < s .header .containers → k < policyCount s c → has (policyAt s c k) t ≡ true
       → t < s .header .containers
   -- 'each holder has its own tag'
   pub own : (c : ℕ) → c < s .header .containers → has (setAt (s .storage .tags) c) c ≡ true
@@ -151,7 +151,7 @@ pub record IsValid (s : State) : Type 0 where
   pub carried : (a b : ℕ) → (a, b) ∈ edgesOf (flowsOf s) → (t : ℕ) → has (setAt (s .storage .tags) a) t ≡ true → has (setAt (s .storage .tags) b) t ≡ true
   -- 'unused places are zero'
   pub unused-flows : (i : ℕ) → s .header .count ≤ i → i < 512 → getD (s .storage .flows) i noFlow ≡ noFlow
-  pub unused-policies : (i : ℕ) → i < 16 * s .header .containers → 4 * getD (s .storage .policyCounts) (i / 16) 0 ≤ i % 16 → getD (s .storage .policies) i 0 ≡ 0
+  pub unused-policies : (i : ℕ) → i < 16 * s .header .containers → 4 * policyCount s (i / 16) ≤ i % 16 → getD (s .storage .policies) i 0 ≡ 0
 
 -- the tests of a valid state pass exactly there
 pub valid : (s : State) → (validOf s ≡ true) ↔ IsValid s

@@ -41,6 +41,13 @@ badSize n lent = shortOf n (length (lent .tags)) (length (lent .policies)) (leng
 unfoldable pub setAt : List ℕ → ℕ → TagSet
 setAt ws k = record { words = getD ws (4 * k) 0 ∷ getD ws (4 * k + 1) 0 ∷ getD ws (4 * k + 2) 0 ∷ getD ws (4 * k + 3) 0 ∷ [] }
 
+-- how many policy sets a container has, and set k of them: 16 words a container, four a set
+abbrev pub policyCount : State → ℕ → ℕ
+policyCount s c = getD (s .storage .policyCounts) c 0
+
+abbrev pub policyAt : State → ℕ → ℕ → TagSet
+policyAt s c k = setAt (s .storage .policies) (4 * c + k)
+
 -- the words with the first n sets replaced, the words beyond as they were
 unfoldable pub withSets : ℕ → (ℕ → TagSet) → List ℕ → List ℕ
 withSets n f ws = tabulate (4 * n) (λ i. getD (f (i / 4) .words) (i % 4) 0) ++ drop (4 * n) ws

@@ -2,13 +2,13 @@
 -- lengths is taken for granted here: where it is shorter, 9 comes first. Assumes nothing.
 use mathlib.Core.Bool.{Bool, true, _&&_, not}
 use mathlib.Core.List.{List, [], _∷_}
-use Prim.Native.Nat.{ℕ, _+_, _*_, _/_, _%_}
+use Prim.Native.Nat.{ℕ, _*_, _/_, _%_}
 use lib.Dec.{leb, ltb, eqb}
 use lib.ListN.{getD, take, drop}
 use Rattle.model.specs.declared.Flow.{Flow}
 use Rattle.model.specs.Model.{edgesOf}
 use Rattle.tagset.specs.Set.{has, implies, allBelow, subsetOf, exceedsOf}
-use Rattle.state.specs.State.{State, badSize, setAt, flowsOf}
+use Rattle.state.specs.State.{State, badSize, setAt, policyCount, policyAt, flowsOf}
 
 -- every element passes the test
 unfoldable pub allOf : {A : Type 0} → (A → Bool) → List A → Bool
@@ -26,7 +26,7 @@ inLimits s = leb 1 (s .header .containers) && leb (s .header .containers) 256
 
 -- 'counts are at most 512 and 4'
 unfoldable pub countsInLimits : State → Bool
-countsInLimits s = leb (s .header .count) 512 && allBelow (s .header .containers) (λ c. leb (getD (s .storage .policyCounts) c 0) 4)
+countsInLimits s = leb (s .header .count) 512 && allBelow (s .header .containers) (λ c. leb (policyCount s c) 4)
 
 -- 'channel numbers rise strictly from at least 1 and don't pass the greatest'
 unfoldable pub numbersRise : State → Bool
@@ -40,7 +40,7 @@ endsProper s = allOf (λ f. ltb (f .from) (s .header .containers) && ltb (f .to)
 unfoldable pub tagsKnown : State → Bool
 tagsKnown s =
     allBelow (s .header .containers) (λ c. not (exceedsOf (setAt (s .storage .tags) c) (s .header .containers)))
-    && allBelow (s .header .containers) (λ c. allBelow (getD (s .storage .policyCounts) c 0) (λ k. not (exceedsOf (setAt (s .storage .policies) (4 * c + k)) (s .header .containers))))
+    && allBelow (s .header .containers) (λ c. allBelow (policyCount s c) (λ k. not (exceedsOf (policyAt s c k) (s .header .containers))))
 
 -- 'each holder has its own tag'
 unfoldable pub ownTags : State → Bool
@@ -58,7 +58,7 @@ isNoFlow f = eqb (f .number) 0 && eqb (f .from) 0 && eqb (f .to) 0
 unfoldable pub unusedZero : State → Bool
 unusedZero s =
     allOf isNoFlow (drop (s .header .count) (take 512 (s .storage .flows)))
-    && allBelow (16 * s .header .containers) (λ i. implies (leb (4 * getD (s .storage .policyCounts) (i / 16) 0) (i % 16)) (eqb (getD (s .storage .policies) i 0) 0))
+    && allBelow (16 * s .header .containers) (λ i. implies (leb (4 * policyCount s (i / 16)) (i % 16)) (eqb (getD (s .storage .policies) i 0) 0))
 
 -- a book is sound if all of them hold
 unfoldable pub validOf : State → Bool

@@ -12,7 +12,7 @@ use Rattle.model.specs.declared.Flow.{Flow}
 use Rattle.model.specs.Model.{isEnabled}
 use Rattle.tagset.specs.declared.TagSet.{TagSet}
 use Rattle.tagset.specs.Set.{exceedsOf}
-use Rattle.state.specs.State.{State, flowsOf}
+use Rattle.state.specs.State.{State, policyCount, flowsOf}
 use Rattle.tagstore.specs.Store.{putSet}
 use Rattle.flowtable.specs.FlowTable.{foundIn, removedAt}
 use Rattle.flowtable.specs.Laws.{found-absent, found-place, removed-within}
@@ -22,7 +22,7 @@ use Rattle.tracker.specs.declared.Answered.{Answered}
 use Rattle.tracker.specs.declared.Reply.{Reply}
 use Rattle.tracker.specs.declared.Reply.the-variants.{Accepted}
 use Rattle.tracker.specs.Replies.{answerOf, givenBack, leftBy}
-use Rattle.outcome.specs.Outcome.{Outcome, decided, enableLater, disableLater, policyCount, addLater, adding}
+use Rattle.outcome.specs.Outcome.{Outcome, decided, enableLater, disableLater, addLater, adding}
 use Rattle.tracker.specs.Judged.{refusedIn, refuses}
 use Rattle.tracker.specs.Unjudged.{appendedTo, carrying, applyEnableOf, applyDisableOf, applyAddOf}
 

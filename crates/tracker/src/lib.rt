@@ -1,4 +1,4 @@
-// The tracker: start, enable, disable, add a policy set. What each call answers and leaves stands in outcome/specs/Outcome.antt, what is claimed of it in specs/Claims.antt.
+// The tracker: start, enable, disable, add a policy set. What each call answers and leaves stands in outcome/specs/Outcome.antt, what is claimed of it in claims/specs/Claims.antt.
 // Lent are four words of tags a container, sixteen words of policy sets and one count of these; the flow table goes by value.
 use flowtable::Found;
 use model::Flow;
