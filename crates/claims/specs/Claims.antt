@@ -1,6 +1,6 @@
 -- THE CLAIMS: what is true of the definitions that the running calls equal, each with the demand that it answers; then of the calls, one by one.
 -- Definitions, words and laws are cited where they stand; the index of both is below the imports. Assumes nothing.
-use mathlib.Core.Path.{_≡_, refl, sym, _∙_, subst}
+use mathlib.Core.Path.{_≡_, refl, sym, ap, _∙_, subst}
 use mathlib.Core.Bool.{true, false}
 use mathlib.Core.List.{List, [], _∷_, _++_, map}
 use mathlib.Core.Logic.{_⊎_, _↔_, _≢_}
@@ -8,13 +8,16 @@ use mathlib.Mathlib.Logic.Relation.{ReflTransGenᴰ}
 use Prim.Native.Nat.{ℕ, suc, _+_, _*_, _/_, _%_, _^_, _≤_, _<_}
 use native.Mathlib.Omega.{arith}
 use lib.Dec.{eqb}
-use lib.ListN.{length, getD, drop}
+use lib.ListN.{length, getD, take, drop}
 use Rattle.truth.specs.Truth.{iff}
 use Rattle.refusal.specs.Order.{firstOf, IsFirst}
-use Rattle.leb128.specs.Number.{IsBytes}
+use Rattle.leb128.specs.Answer.{wrote}
+use Rattle.leb128.specs.Number.{IsBytes, writeAt}
 use Rattle.eventlog.specs.declared.Event.{Event as LogEvent}
-use Rattle.eventlog.specs.Log.{logOf, headAt, eventsFrom}
-use Rattle.eventlog.specs.LogLaws.{IsLog}
+use Rattle.eventlog.specs.Answer.{fieldsOf, read}
+use Rattle.eventlog.specs.Log.{bytesOf, logOf, recordAt, headAt, eventsFrom, logAt, writeLog}
+use Rattle.eventlog.specs.Laws.{IsEvent, written-read, accepted-written}
+use Rattle.eventlog.specs.LogLaws.{complete, IsLog, log-read, log-accepted, log-accepted-written}
 use Rattle.model.specs.declared.Flow.{Flow}
 use Rattle.model.specs.Model.{_∈_, Event, enable, disable, History, empty, _▸_, enabled, edgesOf, Enabled, Enabled*, Flows, Execution, event, exec, configuration, without, greatest, joins, joined, accepted}
 use Rattle.model.specs.Reach.{reaches}
@@ -24,7 +27,7 @@ use Rattle.model.specs.Histories.{accepted-last, joins-added, not-joins-same, f
 use Rattle.model.specs.Propositions.{event-changes-nothing, exec-adds, exact-at, proposition-1, proposition-2}
 use Rattle.tagset.specs.declared.TagSet.{TagSet}
 use Rattle.tagset.specs.Set.{has, bitAt, emptySet, sizeOf}
-use Rattle.state.specs.State.{Storage, State, badSize, setAt, policyCount, policyAt, flowsOf}
+use Rattle.state.specs.State.{Storage, State, stateOf, badSize, setAt, policyCount, policyAt, flowsOf}
 use Rattle.state.specs.Valid.{validOf}
 use Rattle.state.specs.Layout.{Fit64, set-bit, flows-first, flows-count}
 use Rattle.state.specs.IsValid.{IsSized, sized, IsValid, valid, Usable}
@@ -44,12 +47,12 @@ use Rattle.outcome.specs.Policies.{PolicyAdded}
 use Rattle.outcome.specs.Stays.{settled}
 use Rattle.outcome.specs.Steps.{start-makes-usable, call-leaves-usable, call-keeps, usable-answers, Sentence, propagated-sentence, enable-sentence, disable-sentence, IsStarted, start-is-started, FlowsChanged, enable-flows, disable-flows, add-so}
 use Rattle.outcome.specs.Effects.{start-fits, call-fits, start-gains-nothing, SameBeyond, start-beyond, call-beyond, list-beyond, disable-tags, add-tags, gain-counted, enable-gain, disable-gain, add-gain}
-use Rattle.outcome.specs.Follows.{Follows, configuration-has, accepted-joins, calls-follow, begun-follows}
+use Rattle.outcome.specs.Follows.{Follows, configuration-has, accepted-joins}
 use Rattle.question.specs.declared.Tags.{Tags}
 use Rattle.question.specs.declared.Size.{Size}
 use Rattle.question.specs.declared.Legal.{Legal}
 use Rattle.question.specs.Question.{questionOrder, tagsOf, sizeAsked, policiesOf, isLegal, legalOf}
-use Rattle.question.specs.Replies.{tagsReply, sizeReply, legalReply, tags-injective, size-injective, legal-injective}
+use Rattle.question.specs.Replies.{told, tagsReply, sizeReply, legalReply, tags-injective, size-injective, legal-injective}
 use Rattle.question.specs.Laws.{asked-number, QuestionAnswers, question-answers, tags-told, size-told, legal-told, tags-untold, size-untold, legal-untold, legal-exactly-if, no-policy-not-legal, policy-member}
 use Rattle.ranking.specs.declared.Ranked.{Ranked}
 use Rattle.ranking.specs.Ranking.{ranksBefore, rankingOf, SortedBy, rankOf}
@@ -57,18 +60,24 @@ use Rattle.ranking.specs.Replies.{rankedReply, ranked-injective}
 use Rattle.ranking.specs.Laws.{ranks-before-iff, ranking-length, ranking-members, ranking-sorted, ranking-once, ranking-unique, RankAnswers, rank-answers, rank-refused, rank-done}
 use Rattle.replay.specs.declared.Containers.{Containers}
 use Rattle.replay.specs.declared.Ending.{Ending}
-use Rattle.replay.specs.Replay.{eventIn, callOf, containersIn, replayOf}
-use Rattle.replay.specs.Replies.{endingOf, containersOf, ending-injective, containers-injective}
+use Rattle.replay.specs.declared.Replayed.{Replayed}
+use Rattle.replay.specs.Replay.{Run, eventIn, callOf, containersIn, replayOf}
+use Rattle.replay.specs.Replies.{endingOf, runBy, containersOf, ending-injective, containers-injective}
 use Rattle.replay.specs.Laws.{AllAccepted, gainsOf, ContainersAnswers, containers-answers, replay-not-begun, Replays, replay-does, replay-log, replay-log-refused, replay-usable, replay-containers, replay-beyond}
 use Rattle.replay.specs.Joins.{joining, doneOf, replay-done}
+use Rattle.claims.specs.Permission.{takes, givenTo, SameSets, takes-exactly-if, list-follows, policies-are-those-given, questions-are-answered, others-are-no-container, rank-is-answered, legal-exactly-if-given, same-set-twice-takes-two-places}
 
 -- THE DEFINITIONS: model/specs/Model.antt (containers, flows, executions; no word of a tracker) and Reach.antt; state/specs/State.antt and Valid.antt;
--- outcome/specs/Outcome.antt; with tagset/specs/Set.antt and refusal/specs/Order.antt (`firstOf`, IsFirst). For the running calls: Replies.antt (what the
--- contracts cite), Unjudged.antt, flowtable/specs/FlowTable.antt, propagation/specs/Pass.antt, tagstore/specs/Store.antt.
+-- outcome/specs/Outcome.antt; question/specs/Question.antt; ranking/specs/Ranking.antt; eventlog/specs/Log.antt; replay/specs/Replay.antt;
+-- report/specs/Text.antt; with tagset/specs/Set.antt and refusal/specs/Order.antt (`firstOf`, IsFirst). For the running calls: Replies.antt of tracker,
+-- question, ranking and replay (what the contracts cite), tracker/specs/Unjudged.antt, flowtable/specs/FlowTable.antt, propagation/specs/Pass.antt,
+-- tagstore/specs/Store.antt.
 -- WORDS OF THE CLAIMS: IsSized, ProperEnds, Rising, IsValid, Usable (state/specs/IsValid.antt); Fit64 (state/specs/Layout.antt); totalOf
--- (tagstore/specs/Store.antt); StartAnswers, Enables, EnableAnswers, DisableAnswers (outcome/specs/Table.antt); Sentence, IsStarted, FlowsChanged
--- (Steps.antt); SameBeyond (Effects.antt); Follows (Follows.antt); StartDoes, EventDoes, EnableDoes, DisableDoes, Called (Running.antt); Standing, Accepted, Occurs,
--- MayEnable, Within (model/specs/Standing.antt, Histories.antt, Closure.antt).
+-- (tagstore/specs/Store.antt); StartAnswers, Enables, EnableAnswers, DisableAnswers, Adds, AddAnswers (outcome/specs/Table.antt); Sentence, IsStarted,
+-- FlowsChanged (Steps.antt); PolicyAdded (Policies.antt); SameBeyond (Effects.antt); Follows (Follows.antt); QuestionAnswers (question/specs/Laws.antt);
+-- RankAnswers (ranking/specs/Laws.antt); IsEvent, IsLog (eventlog/specs/Laws.antt, LogLaws.antt); ContainersAnswers, AllAccepted, gainsOf, Completes, Stops,
+-- Replays (replay/specs/Laws.antt); joining, doneOf (Joins.antt); givenTo, SameSets (Permission.antt); StartDoes, EventDoes, EnableDoes, DisableDoes, AddDoes,
+-- Called (Running.antt); Standing, Accepted, Occurs, MayEnable, Within (model/specs/Standing.antt, Histories.antt, Closure.antt).
 
 -- DEMAND 1: the work, or the refusal that comes first in the paper's order; a refused event changes nothing
 
@@ -244,7 +253,7 @@ module _ (n : ℕ) (lent : Storage) (begun : startOf n lent .answer .refusal ≡
 
   -- DEMANDS 1 AND 2: its n, its table of flows and its greatest number are the history's, its sets are Flows, and its state is valid
   pub tracker-follows : Follows n history tracker
-  tracker-follows = calls-follow n calls empty (startOf n lent .state) (begun-follows n lent begun)
+  tracker-follows = list-follows n lent begun calls
 
   -- DEMAND 1: so no call is refused for its storage or its state, and the lent storage past the lengths in use is as it was before starting
   pub no-call-answers-9-or-12 : (c : Call) → (outcomeOf tracker c .answer .refusal ≢ 9) × (outcomeOf tracker c .answer .refusal ≢ 12)
@@ -264,14 +273,24 @@ module _ (n : ℕ) (lent : Storage) (begun : startOf n lent .answer .refusal ≡
     λ p. configuration-has tracker c t .0 (tracker-follows .sets c t .1 p) .1,
   )
 
-  -- PERMISSION, by what data can do: a container may be sent exactly if one of its policy sets has every tag that Flows relates to it
+  -- nor is a question or the ranking: a container below n gets its answer, any other 4
+  pub every-question-is-answered : (c : ℕ) → c < n → (tagsOf tracker c .refusal ≡ 0) × (sizeAsked tracker c .refusal ≡ 0) × (legalOf tracker c .refusal ≡ 0)
+  every-question-is-answered = questions-are-answered n lent begun calls
+
+  pub no-other-container-is-told : (c : ℕ) → n ≤ c → (tagsOf tracker c .refusal ≡ 4) × (sizeAsked tracker c .refusal ≡ 4) × (legalOf tracker c .refusal ≡ 4)
+  no-other-container-is-told = others-are-no-container n lent begun calls
+
+  pub the-ranking-is-written : (out : List ℕ) → n ≤ length out → rankOf tracker out .refusal ≡ 0
+  the-ranking-is-written = rank-is-answered n lent begun calls
+
+  -- PERMISSION. The policy sets that a container has are those that the list gave it (`givenTo`, from n and the calls' arguments alone), in the order of
+  -- adding; and it may be sent exactly if one of them has every tag that Flows of the accepted history relates to it
+  pub policy-sets-are-those-given : (c : ℕ) → c < n → SameSets (policiesOf tracker c) (givenTo n c [] calls)
+  policy-sets-are-those-given = policies-are-those-given n lent begun calls
+
   pub legal-exactly-if-flows-permit : (c : ℕ) → c < n
-      → (isLegal tracker c ≡ true) ↔ ((p : TagSet) × (p ∈ policiesOf tracker c) × ((t : ℕ) → Flows n history t c → has p t ≡ true))
-  legal-exactly-if-flows-permit c l =
-      let w = legal-exactly-if tracker c in (
-        λ e. let v = w .0 e in (v .0, v .1, λ t f. v .2 t (sets-are-flows c t l .1 f)),
-        λ v. w .1 (v .0, v .1, λ t h. v .2 t (sets-are-flows c t l .0 h)),
-      )
+      → (legalOf tracker c ≡ told true) ↔ ((p : TagSet) × (p ∈ givenTo n c [] calls) × ((t : ℕ) → Flows n history t c → has p t ≡ true))
+  legal-exactly-if-flows-permit = legal-exactly-if-given n lent begun calls
 
   -- DEMAND 3. For every execution of the accepted history: its configuration is the tracker's exactly if no execution of that history puts a tag
   -- where this one does not; and there is an execution whose configuration is the tracker's
@@ -280,6 +299,25 @@ module _ (n : ℕ) (lent : Storage) (begun : startOf n lent .answer .refusal ≡
       ↔ ((y : Execution history) (c t : ℕ) → configuration n y c t ≡ true → configuration n x c t ≡ true))
       × ((x : Execution history) × (configuration n x ≡ configurationOf tracker))
   demand-3 = exact-at n history (accepted-inside (accepted-each n (eventsOf calls))) (configurationOf tracker) (tracker-follows .sets)
+
+-- DEMAND 2, THE LOG (eventlog/specs/Log.antt). A record that is written is read back as the same event, whatever the bytes behind it; and bytes that are
+-- accepted as an event are those that writing it would leave
+pub a-written-record-is-read-back : (out : List ℕ) (at : ℕ) (e : LogEvent) → IsEvent e → writeAt out at (bytesOf e) .answer .refusal ≡ 0
+    → (t : List ℕ) → take (writeAt out at (bytesOf e) .answer .next) (writeAt out at (bytesOf e) .output) ≡ take (writeAt out at (bytesOf e) .answer .next) t
+    → recordAt t at ≡ read (fieldsOf e) (writeAt out at (bytesOf e) .answer .next)
+a-written-record-is-read-back = written-read
+
+pub an-accepted-record-is-what-we-write : (s : List ℕ) (at : ℕ) (e : LogEvent) {p : ℕ} → IsBytes s → recordAt s at ≡ read (fieldsOf e) p
+    → writeAt s at (bytesOf e) ≡ record { answer = wrote p; output = s }
+an-accepted-record-is-what-we-write = accepted-written
+
+-- the same of a whole log, n included
+pub a-log-is-read-back : {s : List ℕ} {n : ℕ} {es : List LogEvent} → IsLog s n es → logAt s ≡ complete n es
+a-log-is-read-back = log-read
+
+pub an-accepted-log-is-what-we-write : (s : List ℕ) {n : ℕ} {es : List LogEvent} → IsBytes s → logAt s ≡ complete n es
+    → IsLog s n es × (writeLog s n es ≡ record { answer = wrote (length s); output = s })
+an-accepted-log-is-what-we-write s are e = (log-accepted s are e, log-accepted-written s are e)
 
 -- QUESTIONS (question/specs/Question.antt) change nothing and carry no header.
 -- DEMAND 1: which number each answers, for every state and container; one that is refused answers the empty set, the size 0, no
@@ -319,6 +357,15 @@ without-policy-set-not-legal = no-policy-not-legal
 pub policy-sets-are-stored : (s : State) (c : ℕ) (p : TagSet)
     → (p ∈ policiesOf s c) ↔ ((k : ℕ) × (k < policyCount s c) × (p ≡ policyAt s c k))
 policy-sets-are-stored = policy-member
+
+-- which sets a list of calls gives a container: one more where it is a container, no tag is n or more and there are fewer than four. 'The same set may be
+-- added twice and takes two places'
+pub a-set-is-taken-exactly-if : (n c : ℕ) (had : List TagSet) (d : ℕ) (p : TagSet)
+    → (takes n c had d p ≡ true) ↔ ((d ≡ c) × (c < n) × ((t : ℕ) → has p t ≡ true → t < n) × (length had < 4))
+a-set-is-taken-exactly-if = takes-exactly-if
+
+pub the-same-set-twice-takes-two-places : (n c : ℕ) (p : TagSet) → c < n → ((t : ℕ) → has p t ≡ true → t < n) → givenTo n c [] (add c p ∷ add c p ∷ []) ≡ p ∷ p ∷ []
+the-same-set-twice-takes-two-places = same-set-twice-takes-two-places
 
 -- THE RANKING (ranking/specs/Ranking.antt).
 -- DEMAND 1: which number it answers; a refusal leaves the output, and the places after the n numbers stay
@@ -484,6 +531,15 @@ pub the-numbers-tell-answers-apart :
     × ((q r : Ending) → endingOf q ≡ endingOf r → q ≡ r)
 the-numbers-tell-answers-apart = (tags-injective, size-injective, legal-injective, ranked-injective, containers-injective, ending-injective)
 
+-- so of a replay that runs: it is starting and the calls of its records, or it changes nothing
+pub what-replay-does : (bs : List ℕ) (lent : Storage) (r : Replayed) (tags policies counts : List ℕ) → runBy r tags policies counts ≡ replayOf bs lent
+    → ((k : ℕ) → containersIn bs lent .refusal ≡ suc k → stateOf (r .header) tags policies counts (r .flows) ≡ record { header = record { containers = 0; count = 0; greatest = 0 }; storage = lent })
+    × (IsBytes bs → containersIn bs lent .refusal ≡ 0 → Replays bs (headAt bs .value) lent (runBy r tags policies counts))
+what-replay-does bs lent r tags policies counts e = (
+  λ k z. ap (λ (x : Run). x .state) (e ∙ replay-not-begun bs lent k z),
+  λ are b. subst (Replays bs (headAt bs .value) lent) (sym e) (replay-does bs lent are b),
+)
+
 -- PROPAGATION runs in passes. One pass gives each container what it had, and what the sources of its edges had when the pass began
 pub a-pass-reads-the-sets-found : (n : ℕ) (es : List (ℕ × ℕ)) (ws : List ℕ) → 4 * n ≤ length ws → (c t : ℕ) → c < n
     → (has (setAt (pass n es ws) c) t ≡ true)
@@ -552,6 +608,19 @@ module _ (n : ℕ) (lent : Storage) (calls : List Call) (s : State) (made : Call
 
   pub called-sets-are-flows : (c t : ℕ) → c < n → (has (setAt (s .storage .tags) c) t ≡ true) ↔ Flows n (accepted n (eventsOf calls)) t c
   called-sets-are-flows = rw (sym same-state) (sets-are-flows n lent (called-is made .0) calls)
+
+  pub called-policy-sets-are-those-given : (c : ℕ) → c < n → SameSets (policiesOf s c) (givenTo n c [] calls)
+  called-policy-sets-are-those-given = rw (sym same-state) (policies-are-those-given n lent (called-is made .0) calls)
+
+  -- what `is_legal` then answers
+  pub called-legal-exactly-if-flows-permit : (c : ℕ) → c < n → (r : Legal) → legalReply r ≡ legalOf s c
+      → (legalReply r ≡ told true) ↔ ((p : TagSet) × (p ∈ givenTo n c [] calls) × ((t : ℕ) → Flows n (accepted n (eventsOf calls)) t c → has p t ≡ true))
+  called-legal-exactly-if-flows-permit c l r e =
+      rw e
+      (subst
+      (λ (s : State).
+      (legalOf s c ≡ told true) ↔ ((p : TagSet) × (p ∈ givenTo n c [] calls) × ((t : ℕ) → Flows n (accepted n (eventsOf calls)) t c → has p t ≡ true)))
+      same-state (legal-exactly-if-given n lent (called-is made .0) calls c l))
 
   -- the next call that runs, whatever its event, is accepted exactly if the event joins
   pub called-accepted-exactly-if-it-joins : (e : Event) (r : Answered) (tags policies counts : List ℕ) → leftBy r tags policies counts ≡ outcomeOf s (ask e)

@@ -1,2 +1,3 @@
+pub mod Permission
 pub mod Claims
 pub mod Running

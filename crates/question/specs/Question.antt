@@ -43,7 +43,7 @@ anyOf p (x ∷ xs) = p x || anyOf p xs
 
 -- a container's policy sets (document 001: its policy tag), 'in the order of adding': as many as it has by its count
 unfoldable pub policiesOf : State → ℕ → List TagSet
-policiesOf s c = tabulate (policyCount s c) (policyAt s c)
+policiesOf s c = tabulate (policyCount s c) (λ k. policyAt s c k)
 
 -- document 001: 'legal if and only if its information tag is included in at least one of the sets of its policy tag'
 unfoldable pub isLegal : State → ℕ → Bool
