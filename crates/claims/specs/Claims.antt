@@ -65,6 +65,11 @@ use Rattle.replay.specs.Replay.{Run, eventIn, callOf, containersIn, replayOf}
 use Rattle.replay.specs.Replies.{endingOf, runBy, containersOf, ending-injective, containers-injective}
 use Rattle.replay.specs.Laws.{AllAccepted, gainsOf, ContainersAnswers, containers-answers, replay-not-begun, Replays, replay-does, replay-log, replay-log-refused, replay-usable, replay-containers, replay-beyond}
 use Rattle.replay.specs.Joins.{joining, doneOf, replay-done}
+use Rattle.decimal.specs.Decimal.{decimalOf, numberOf}
+use Rattle.decimal.specs.Laws.{decimal-value, decimal-digit, decimal-front}
+use Rattle.report.specs.Text.{eventsWord, gainWord, refusedWord, atWord, tagsRising, lineOf, linesOf, eventsLine, refusedLine, textOf, leftOf, tallyOf}
+use Rattle.report.specs.Words.{lineWith, line-words, events-line-words, refused-line-words, no-lines, line-by-line}
+use Rattle.report.specs.Laws.{tags-members, tags-rising, tags-count, IsLine, line-ends, events-line-ends, refused-line-ends, text-of-long-input, text-of-unusable-n, text-of-complete-run, text-of-refused-run, left-of-run, left-of-long-input, tally-short, tally-fits, tally-suffices}
 use Rattle.claims.specs.Permission.{takes, givenTo, SameSets, takes-exactly-if, list-follows, policies-are-those-given, questions-are-answered, others-are-no-container, rank-is-answered, legal-exactly-if-given, same-set-twice-takes-two-places}
 
 -- THE DEFINITIONS: model/specs/Model.antt (containers, flows, executions; no word of a tracker) and Reach.antt; state/specs/State.antt and Valid.antt;
@@ -76,7 +81,7 @@ use Rattle.claims.specs.Permission.{takes, givenTo, SameSets, takes-exac
 -- (tagstore/specs/Store.antt); StartAnswers, Enables, EnableAnswers, DisableAnswers, Adds, AddAnswers (outcome/specs/Table.antt); Sentence, IsStarted,
 -- FlowsChanged (Steps.antt); PolicyAdded (Policies.antt); SameBeyond (Effects.antt); Follows (Follows.antt); QuestionAnswers (question/specs/Laws.antt);
 -- RankAnswers (ranking/specs/Laws.antt); IsEvent, IsLog (eventlog/specs/Laws.antt, LogLaws.antt); ContainersAnswers, AllAccepted, gainsOf, Completes, Stops,
--- Replays (replay/specs/Laws.antt); joining, doneOf (Joins.antt); givenTo, SameSets (Permission.antt); StartDoes, EventDoes, EnableDoes, DisableDoes, AddDoes,
+-- Replays (replay/specs/Laws.antt); joining, doneOf (Joins.antt); lineWith, IsLine (report/specs/Words.antt, Laws.antt); givenTo, SameSets (Permission.antt); StartDoes, EventDoes, EnableDoes, DisableDoes, AddDoes,
 -- Called (Running.antt); Standing, Accepted, Occurs, MayEnable, Within (model/specs/Standing.antt, Histories.antt, Closure.antt).
 
 -- DEMAND 1: the work, or the refusal that comes first in the paper's order; a refused event changes nothing
@@ -456,6 +461,70 @@ a-refused-event-ends-the-log = replay-log-refused
 pub replay-leaves-valid : (bs : List ℕ) (lent : Storage) → containersIn bs lent .refusal ≡ 0
     → Usable (replayOf bs lent .state) × (replayOf bs lent .state .header .containers ≡ headAt bs .value) × SameBeyond (headAt bs .value) (replayOf bs lent .state .storage) lent
 replay-leaves-valid bs lent b = (replay-usable bs lent b, replay-containers bs lent b, replay-beyond bs lent b)
+
+-- THE TEXT of `tally` (report/specs/Text.antt), line by line. A line is its words with single spaces between them (`lineWith`): of a container its number, its
+-- size and its tags, which rise; of the end `events`, their number, `gain`, their sum, or `refused`, the number, `at`, the byte
+pub the-line-of-a-container : (c : ℕ) (s : TagSet) → lineOf c s ≡ lineWith (decimalOf c) (map decimalOf (sizeOf s ∷ tagsRising s))
+the-line-of-a-container = line-words
+
+pub the-tags-of-a-line : (s : TagSet)
+    → ((t : ℕ) → (t ∈ tagsRising s) ↔ (has s t ≡ true))
+    × ((i j : ℕ) → i < j → j < length (tagsRising s) → getD (tagsRising s) i 0 < getD (tagsRising s) j 0) × (length (tagsRising s) ≡ sizeOf s)
+the-tags-of-a-line s = (tags-members s, tags-rising s, tags-count s)
+
+pub the-line-of-events : (events gain : ℕ) → eventsLine events gain ≡ lineWith eventsWord (decimalOf events ∷ gainWord ∷ decimalOf gain ∷ [])
+the-line-of-events = events-line-words
+
+pub the-line-of-a-refusal : (refusal byte : ℕ) → refusedLine refusal byte ≡ lineWith refusedWord (decimalOf refusal ∷ atWord ∷ decimalOf byte ∷ [])
+the-line-of-a-refusal = refused-line-words
+
+pub a-number-is-its-digits : (v : ℕ)
+    → (numberOf (decimalOf v) ≡ v) × ((k : ℕ) → k < length (decimalOf v) → (48 ≤ getD (decimalOf v) k 0) × (getD (decimalOf v) k 0 ≤ 57))
+    × (10 ≤ v → getD (decimalOf v) 0 0 ≢ 48)
+a-number-is-its-digits v = (decimal-value v, decimal-digit v, decimal-front v)
+
+-- every line ends with a newline and has no other
+pub every-line-ends : ((c : ℕ) (s : TagSet) → IsLine (lineOf c s)) × ((events gain : ℕ) → IsLine (eventsLine events gain)) × ((refusal byte : ℕ) → IsLine (refusedLine refusal byte))
+every-line-ends = (line-ends, events-line-ends, refused-line-ends)
+
+-- which lines there are: those of the containers in the order of the ranking, and the last; only the last if n cannot be used or the input is too long
+pub the-text-of-long-input : (bs : List ℕ) (lent : Storage) → 16384 < length bs → textOf bs lent ≡ refusedLine 10 16384
+the-text-of-long-input = text-of-long-input
+
+pub the-text-without-n : (bs : List ℕ) (lent : Storage) → length bs ≤ 16384 → (k : ℕ) → containersIn bs lent .refusal ≡ suc k → textOf bs lent ≡ refusedLine (suc k) 0
+the-text-without-n = text-of-unusable-n
+
+pub the-text-of-a-complete-run : (bs : List ℕ) (lent : Storage) → length bs ≤ 16384 → containersIn bs lent .refusal ≡ 0 → replayOf bs lent .refusal ≡ 0
+    → textOf bs lent
+    ≡ linesOf (rankingOf (headAt bs .value) (replayOf bs lent .state .storage .tags)) (replayOf bs lent .state .storage .tags)
+    ++ eventsLine (replayOf bs lent .events) (replayOf bs lent .gain)
+the-text-of-a-complete-run = text-of-complete-run
+
+pub the-text-of-a-refused-run : (bs : List ℕ) (lent : Storage) → length bs ≤ 16384 → containersIn bs lent .refusal ≡ 0 → (k : ℕ) → replayOf bs lent .refusal ≡ suc k
+    → textOf bs lent
+    ≡ linesOf (rankingOf (headAt bs .value) (replayOf bs lent .state .storage .tags)) (replayOf bs lent .state .storage .tags)
+    ++ refusedLine (suc k) (replayOf bs lent .byte)
+the-text-of-a-refused-run = text-of-refused-run
+
+pub the-lines-of-containers : (c : ℕ) (cs ws : List ℕ) → (linesOf (c ∷ cs) ws ≡ lineOf c (setAt ws c) ++ linesOf cs ws) × (linesOf [] ws ≡ [])
+the-lines-of-containers c cs ws = (line-by-line c cs ws, no-lines ws)
+
+-- a text that does not fit is refused with 10 and no byte is written; the tracker is left as the run leaves it, whatever the output; and the program's
+-- buffer always suffices
+pub a-short-output-keeps-its-bytes : (bs : List ℕ) (lent : Storage) (out : List ℕ) → length out < length (textOf bs lent)
+    → (tallyOf bs lent out .answer .refusal ≡ 10) × (tallyOf bs lent out .output ≡ out)
+a-short-output-keeps-its-bytes = tally-short
+
+pub a-text-that-fits-is-written : (bs : List ℕ) (lent : Storage) (out : List ℕ) → length (textOf bs lent) ≤ length out
+    → (tallyOf bs lent out .answer .refusal ≡ 0) × (tallyOf bs lent out .output ≡ textOf bs lent ++ drop (length (textOf bs lent)) out)
+a-text-that-fits-is-written = tally-fits
+
+pub tally-leaves-what-the-run-leaves : (bs : List ℕ) (lent : Storage) → (length bs ≤ 16384 → leftOf bs lent ≡ replayOf bs lent .state)
+    × (16384 < length bs → leftOf bs lent ≡ record { header = record { containers = 0; count = 0; greatest = 0 }; storage = lent })
+tally-leaves-what-the-run-leaves bs lent = (left-of-run bs lent, left-of-long-input bs lent)
+
+pub the-buffer-of-tally-suffices : (bs : List ℕ) (lent : Storage) (out : List ℕ) → IsBytes bs → 264256 ≤ length out → tallyOf bs lent out .answer .refusal ≡ 0
+the-buffer-of-tally-suffices = tally-suffices
 
 -- THE RUNNING CALLS (src/lib.rt of each crate). The contract of each is one equation: what the call gives back and leaves in the lent lists (`leftBy`) makes up the
 -- outcome of its definition, for every number and every content and length of storage. It is the hypothesis here; the reader compares it with the line

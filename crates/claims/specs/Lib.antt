@@ -1,3 +1,4 @@
+pub mod Samples
 pub mod Permission
 pub mod Claims
 pub mod Running

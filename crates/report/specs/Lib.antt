@@ -1,0 +1,5 @@
+pub mod Text
+pub mod Put
+pub mod Pieces
+pub mod Laws
+pub mod Words

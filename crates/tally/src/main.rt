@@ -1,0 +1,32 @@
+// The program: reads a log from standard input, up to one byte more than it may have, and writes its report to standard output.
+use leb128::Encoded;
+use model::Flow;
+ghost use Rattle.io.specs.Counts.{Counts};
+
+fn main() {
+    let mut input = [0u8; 16385];
+    let n = io::read_full(libc::STDIN_FILENO, &mut input);
+    let mut text = [0u8; 264256];
+    let length = report_of(&input[..n], &mut text);
+    io::write_all(libc::STDOUT_FILENO, &text[..length]);
+}
+
+// Puts the report of these bytes, run in a new tracker, at the start of `text`, and answers its length. The text always fits (law `tally-suffices`).
+fn report_of(bytes: &[u8], text: &mut [u8]) -> usize
+    ensures { λ r. ⌜ Counts r (now (text .exit)) ⌝ }
+{
+    let mut tags = [0u64; 1024];
+    let mut policies = [0u64; 4096];
+    let mut counts = [0u8; 256];
+    let none = [Flow {
+        number: 0,
+        from: 0,
+        to: 0,
+    }; 512];
+    let made = report::tally(bytes, &mut tags, &mut policies, &mut counts, none, text);
+    let reply = made.reply;
+    match reply {
+        Encoded::Next(length) => length,
+        Encoded::ShortOutput => 0,
+    }
+}
