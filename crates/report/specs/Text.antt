@@ -82,6 +82,6 @@ textOf bs lent = cond (ltb 16384 (length bs)) (refusedLine 10 16384) (runText (r
 unfoldable pub leftOf : List ℕ → Storage → State
 leftOf bs lent = cond (ltb 16384 (length bs)) (record { header = noHeader; storage = lent }) (replayOf bs lent .state)
 
--- the text written at the start of an output; 10, 'without a byte', where it does not fit
+-- the text written at the start of an output; 10 where it does not fit, and the output keeps its content
 abbrev pub tallyOf : List ℕ → Storage → List ℕ → Written
 tallyOf bs lent out = writeAt out 0 (textOf bs lent)

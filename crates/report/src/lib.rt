@@ -1,4 +1,5 @@
 // The text of `tally`: an input run in a lent tracker, and its report in a lent output. What the text is stands in specs/Text.antt.
+// The private functions take positions up to some millions, far past the end of every text (264,256 bytes): so no sum of a position wraps.
 use leb128::Encoded;
 use model::Flow;
 use replay::Ending;
