@@ -11,13 +11,20 @@ use lib.Dec.{eqb}
 use lib.ListN.{length, getD, take, drop}
 use Rattle.truth.specs.Truth.{iff}
 use Rattle.refusal.specs.Order.{firstOf, IsFirst}
-use Rattle.leb128.specs.Answer.{wrote}
-use Rattle.leb128.specs.Number.{IsBytes, writeAt}
+use Rattle.leb128.specs.declared.Encoded.{Encoded}
+use Rattle.leb128.specs.Answer.{refused, wrote, unwritten, writingOf}
+use Rattle.leb128.specs.Number.{IsBytes, overwrite, writeAt}
+use Rattle.leb128.specs.Refusals.{IsTruncated, IsOverlong, truncated-refused as number-truncated-refused, overlong-refused as number-overlong-refused, refused-truncated as number-refused-truncated, refused-overlong as number-refused-overlong}
+use Rattle.leb128.specs.Output.{write-fits, write-short}
+use Rattle.leb128.specs.Laws.{writing-injective}
 use Rattle.eventlog.specs.declared.Event.{Event as LogEvent}
-use Rattle.eventlog.specs.Answer.{fieldsOf, read}
+use Rattle.eventlog.specs.declared.Event.the-variants.{Enable, Disable}
+use Rattle.eventlog.specs.Answer.{fieldsOf, read, unread}
 use Rattle.eventlog.specs.Log.{bytesOf, logOf, recordAt, headAt, eventsFrom, logAt, writeLog}
+use Rattle.eventlog.specs.Refusals.{SomeField, IsUnknown, truncated-refused, overlong-refused, unknown-refused, refused-truncated, refused-overlong, refused-unknown}
+use Rattle.eventlog.specs.Records.{AreEvents}
 use Rattle.eventlog.specs.Laws.{IsEvent, written-read, accepted-written}
-use Rattle.eventlog.specs.LogLaws.{complete, IsLog, log-read, log-accepted, log-accepted-written}
+use Rattle.eventlog.specs.LogLaws.{complete, IsLog, log-read, log-accepted, log-written-read, log-accepted-written}
 use Rattle.model.specs.declared.Flow.{Flow}
 use Rattle.model.specs.Model.{_∈_, Event, enable, disable, History, empty, _▸_, enabled, edgesOf, Enabled, Enabled*, Flows, Execution, event, exec, configuration, without, greatest, joins, joined, accepted}
 use Rattle.model.specs.Reach.{reaches}
@@ -51,13 +58,13 @@ use Rattle.outcome.specs.Follows.{Follows, configuration-has, accepted-joins}
 use Rattle.question.specs.declared.Tags.{Tags}
 use Rattle.question.specs.declared.Size.{Size}
 use Rattle.question.specs.declared.Legal.{Legal}
-use Rattle.question.specs.Question.{questionOrder, tagsOf, sizeAsked, policiesOf, isLegal, legalOf}
+use Rattle.question.specs.Question.{Asked, questionOrder, tagsOf, sizeAsked, policiesOf, isLegal, legalOf}
 use Rattle.question.specs.Replies.{told, tagsReply, sizeReply, legalReply, tags-injective, size-injective, legal-injective}
 use Rattle.question.specs.Laws.{asked-number, QuestionAnswers, question-answers, tags-told, size-told, legal-told, tags-untold, size-untold, legal-untold, legal-exactly-if, no-policy-not-legal, policy-member}
 use Rattle.ranking.specs.declared.Ranked.{Ranked}
-use Rattle.ranking.specs.Ranking.{ranksBefore, rankingOf, SortedBy, rankOf}
+use Rattle.ranking.specs.Ranking.{ranksBefore, rankingOf, SortedBy, rankOf, rankInto}
 use Rattle.ranking.specs.Replies.{rankedReply, ranked-injective}
-use Rattle.ranking.specs.Laws.{ranks-before-iff, ranking-length, ranking-members, ranking-sorted, ranking-once, ranking-unique, RankAnswers, rank-answers, rank-refused, rank-done}
+use Rattle.ranking.specs.Laws.{ranks-before-iff, ranking-length, ranking-members, ranking-sorted, ranking-once, ranking-unique, RankAnswers, rank-answers, rank-refused, rank-done, rank-into-done, rank-into-none}
 use Rattle.replay.specs.declared.Containers.{Containers}
 use Rattle.replay.specs.declared.Ending.{Ending}
 use Rattle.replay.specs.declared.Replayed.{Replayed}
@@ -65,23 +72,26 @@ use Rattle.replay.specs.Replay.{Run, eventIn, callOf, containersIn, replayOf}
 use Rattle.replay.specs.Replies.{endingOf, runBy, containersOf, ending-injective, containers-injective}
 use Rattle.replay.specs.Laws.{AllAccepted, gainsOf, ContainersAnswers, containers-answers, replay-not-begun, Replays, replay-does, replay-log, replay-log-refused, replay-usable, replay-containers, replay-beyond}
 use Rattle.replay.specs.Joins.{joining, doneOf, replay-done}
+use Rattle.replay.specs.Numbers.{begins-exactly-if}
 use Rattle.decimal.specs.Decimal.{decimalOf, numberOf}
-use Rattle.decimal.specs.Laws.{decimal-value, decimal-digit, decimal-front}
-use Rattle.report.specs.Text.{eventsWord, gainWord, refusedWord, atWord, tagsRising, lineOf, linesOf, eventsLine, refusedLine, textOf, leftOf, tallyOf}
+use Rattle.decimal.specs.Laws.{decimal-last, decimal-value, decimal-digit, decimal-front}
+use Rattle.report.specs.Text.{eventsWord, gainWord, refusedWord, atWord, tagsRising, lineOf, linesOf, eventsLine, refusedLine, textOf, newStorage, printedOf, leftOf, tallyOf}
+use Rattle.report.specs.declared.Tallied.{Tallied}
 use Rattle.report.specs.Words.{lineWith, line-words, events-line-words, refused-line-words, no-lines, line-by-line}
 use Rattle.report.specs.Laws.{tags-members, tags-rising, tags-count, IsLine, line-ends, events-line-ends, refused-line-ends, text-of-long-input, text-of-unusable-n, text-of-complete-run, text-of-refused-run, left-of-run, left-of-long-input, tally-short, tally-fits, tally-suffices}
-use Rattle.claims.specs.Permission.{takes, givenTo, SameSets, takes-exactly-if, list-follows, policies-are-those-given, questions-are-answered, others-are-no-container, rank-is-answered, legal-exactly-if-given, same-set-twice-takes-two-places}
+use Rattle.claims.specs.Permission.{takes, givenTo, SameSets, takes-exactly-if, list-follows, policies-are-those-given, questions-are-answered, others-are-no-container, rank-is-answered, legal-exactly-if-given, same-set-twice-takes-two-places, a-fifth-is-not-taken}
 
 -- THE DEFINITIONS: model/specs/Model.antt (containers, flows, executions; no word of a tracker) and Reach.antt; state/specs/State.antt and Valid.antt;
--- outcome/specs/Outcome.antt; question/specs/Question.antt; ranking/specs/Ranking.antt; eventlog/specs/Log.antt; replay/specs/Replay.antt;
--- report/specs/Text.antt; with tagset/specs/Set.antt and refusal/specs/Order.antt (`firstOf`, IsFirst). For the running calls: Replies.antt of tracker,
+-- outcome/specs/Outcome.antt; question/specs/Question.antt; ranking/specs/Ranking.antt; leb128/specs/Number.antt and Answer.antt; eventlog/specs/Log.antt;
+-- replay/specs/Replay.antt; decimal/specs/Decimal.antt; report/specs/Text.antt; with tagset/specs/Set.antt and refusal/specs/Order.antt (`firstOf`, IsFirst). For the running calls: Replies.antt of tracker,
 -- question, ranking and replay (what the contracts cite), tracker/specs/Unjudged.antt, flowtable/specs/FlowTable.antt, propagation/specs/Pass.antt,
 -- tagstore/specs/Store.antt.
 -- WORDS OF THE CLAIMS: IsSized, ProperEnds, Rising, IsValid, Usable (state/specs/IsValid.antt); Fit64 (state/specs/Layout.antt); totalOf
 -- (tagstore/specs/Store.antt); StartAnswers, Enables, EnableAnswers, DisableAnswers, Adds, AddAnswers (outcome/specs/Table.antt); Sentence, IsStarted,
 -- FlowsChanged (Steps.antt); PolicyAdded (Policies.antt); SameBeyond (Effects.antt); Follows (Follows.antt); QuestionAnswers (question/specs/Laws.antt);
--- RankAnswers (ranking/specs/Laws.antt); IsEvent, IsLog (eventlog/specs/Laws.antt, LogLaws.antt); ContainersAnswers, AllAccepted, gainsOf, Completes, Stops,
--- Replays (replay/specs/Laws.antt); joining, doneOf (Joins.antt); lineWith, IsLine (report/specs/Words.antt, Laws.antt); givenTo, SameSets (Permission.antt); StartDoes, EventDoes, EnableDoes, DisableDoes, AddDoes,
+-- RankAnswers (ranking/specs/Laws.antt); IsTruncated, IsOverlong (leb128/specs/Refusals.antt); IsPart (Part.antt);
+-- SomeField, IsUnknown (eventlog/specs/Refusals.antt); IsEvent, IsRecord, IsLog (Laws.antt, LogLaws.antt); ContainersAnswers, AllAccepted, gainsOf, Completes, Stops,
+-- Replays (replay/specs/Laws.antt); joining, doneOf (Joins.antt); lineWith, IsLine (report/specs/Words.antt, Laws.antt); takes, givenTo, SameSets (Permission.antt); StartDoes, EventDoes, EnableDoes, DisableDoes, AddDoes,
 -- Called (Running.antt); Standing, Accepted, Occurs, MayEnable, Within (model/specs/Standing.antt, Histories.antt, Closure.antt).
 
 -- DEMAND 1: the work, or the refusal that comes first in the paper's order; a refused event changes nothing
@@ -264,6 +274,16 @@ module _ (n : ℕ) (lent : Storage) (begun : startOf n lent .answer .refusal ≡
   pub no-call-answers-9-or-12 : (c : Call) → (outcomeOf tracker c .answer .refusal ≢ 9) × (outcomeOf tracker c .answer .refusal ≢ 12)
   no-call-answers-9-or-12 c = usable-answers tracker c (tracker-follows .usable)
 
+  -- nor is a question or the ranking: a container below n gets its answer, any other 4
+  pub every-question-is-answered : (c : ℕ) → c < n → (tagsOf tracker c .refusal ≡ 0) × (sizeAsked tracker c .refusal ≡ 0) × (legalOf tracker c .refusal ≡ 0)
+  every-question-is-answered = questions-are-answered n lent begun calls
+
+  pub no-other-container-is-told : (c : ℕ) → n ≤ c → (tagsOf tracker c .refusal ≡ 4) × (sizeAsked tracker c .refusal ≡ 4) × (legalOf tracker c .refusal ≡ 4)
+  no-other-container-is-told = others-are-no-container n lent begun calls
+
+  pub the-ranking-is-written : (out : List ℕ) → n ≤ length out → rankOf tracker out .refusal ≡ 0
+  the-ranking-is-written = rank-is-answered n lent begun calls
+
   pub tracker-writes-nothing-beyond : SameBeyond n (tracker .storage) lent
   tracker-writes-nothing-beyond = list-beyond n lent begun calls
 
@@ -277,16 +297,6 @@ module _ (n : ℕ) (lent : Storage) (begun : startOf n lent .answer .refusal ≡
     λ p. tracker-follows .sets c t .0 (configuration-has tracker c t .1 (omega (arith, l, tracker-follows .size), p)),
     λ p. configuration-has tracker c t .0 (tracker-follows .sets c t .1 p) .1,
   )
-
-  -- nor is a question or the ranking: a container below n gets its answer, any other 4
-  pub every-question-is-answered : (c : ℕ) → c < n → (tagsOf tracker c .refusal ≡ 0) × (sizeAsked tracker c .refusal ≡ 0) × (legalOf tracker c .refusal ≡ 0)
-  every-question-is-answered = questions-are-answered n lent begun calls
-
-  pub no-other-container-is-told : (c : ℕ) → n ≤ c → (tagsOf tracker c .refusal ≡ 4) × (sizeAsked tracker c .refusal ≡ 4) × (legalOf tracker c .refusal ≡ 4)
-  no-other-container-is-told = others-are-no-container n lent begun calls
-
-  pub the-ranking-is-written : (out : List ℕ) → n ≤ length out → rankOf tracker out .refusal ≡ 0
-  the-ranking-is-written = rank-is-answered n lent begun calls
 
   -- PERMISSION. The policy sets that a container has are those that the list gave it (`givenTo`, from n and the calls' arguments alone), in the order of
   -- adding; and it may be sent exactly if one of them has every tag that Flows of the accepted history relates to it
@@ -316,13 +326,33 @@ pub an-accepted-record-is-what-we-write : (s : List ℕ) (at : ℕ) (e : LogEven
     → writeAt s at (bytesOf e) ≡ record { answer = wrote p; output = s }
 an-accepted-record-is-what-we-write = accepted-written
 
--- the same of a whole log, n included
+-- the same of a whole log, n included: what the calls that write it leave is read back, and so is every log that stands alone
+pub a-written-log-is-read-back : (out : List ℕ) (n : ℕ) (es : List LogEvent) → writeLog out n es .answer .refusal ≡ 0 → n < 2 ^ 32 → AreEvents es
+    → logAt (take (writeLog out n es .answer .next) (writeLog out n es .output)) ≡ complete n es
+a-written-log-is-read-back = log-written-read
+
 pub a-log-is-read-back : {s : List ℕ} {n : ℕ} {es : List LogEvent} → IsLog s n es → logAt s ≡ complete n es
 a-log-is-read-back = log-read
 
 pub an-accepted-log-is-what-we-write : (s : List ℕ) {n : ℕ} {es : List LogEvent} → IsBytes s → logAt s ≡ complete n es
     → IsLog s n es × (writeLog s n es ≡ record { answer = wrote (length s); output = s })
 an-accepted-log-is-what-we-write s are e = (log-accepted s are e, log-accepted-written s are e)
+
+-- DEMAND 1, READING AND WRITING: 1 where the bytes end before a field does, 2 where a field is long, 3 where the kind is neither 0 nor 1, each exactly
+-- there, and reading answers no other refusal; 10 where the bytes do not fit, and then nothing changes
+pub reading-answers-by-the-table : (s : List ℕ) (at : ℕ)
+    → ((recordAt s at ≡ unread 1) ↔ SomeField s at IsTruncated) × ((recordAt s at ≡ unread 2) ↔ SomeField s at IsOverlong) × ((recordAt s at ≡ unread 3) ↔ IsUnknown s at)
+reading-answers-by-the-table s at =
+    ((refused-truncated s at, truncated-refused s at), (refused-overlong s at, overlong-refused s at), (refused-unknown s at, unknown-refused s at))
+
+pub reading-n-answers-by-the-table : (s : List ℕ) → ((headAt s ≡ refused 1) ↔ IsTruncated 32 (drop 0 s)) × ((headAt s ≡ refused 2) ↔ IsOverlong 32 (drop 0 s))
+reading-n-answers-by-the-table s =
+    ((number-refused-truncated 32 s 0, number-truncated-refused 32 s 0), (number-refused-overlong 32 s 0, number-overlong-refused 32 s 0))
+
+pub writing-answers-10-exactly-if-it-does-not-fit : (out : List ℕ) (at : ℕ) (bs : List ℕ)
+    → (length out < at + length bs → writeAt out at bs ≡ record { answer = unwritten 10; output = out })
+    × (at + length bs ≤ length out → writeAt out at bs ≡ record { answer = wrote (at + length bs); output = overwrite out at bs })
+writing-answers-10-exactly-if-it-does-not-fit out at bs = (write-short out at bs, write-fits out at bs)
 
 -- QUESTIONS (question/specs/Question.antt) change nothing and carry no header.
 -- DEMAND 1: which number each answers, for every state and container; one that is refused answers the empty set, the size 0, no
@@ -372,6 +402,11 @@ a-set-is-taken-exactly-if = takes-exactly-if
 pub the-same-set-twice-takes-two-places : (n c : ℕ) (p : TagSet) → c < n → ((t : ℕ) → has p t ≡ true → t < n) → givenTo n c [] (add c p ∷ add c p ∷ []) ≡ p ∷ p ∷ []
 the-same-set-twice-takes-two-places = same-set-twice-takes-two-places
 
+pub a-fifth-set-is-not-taken : (n c : ℕ) (p q r s : TagSet) → c < n → ((t : ℕ) → has p t ≡ true → t < n) → ((t : ℕ) → has q t ≡ true → t < n)
+    → ((t : ℕ) → has r t ≡ true → t < n) → ((t : ℕ) → has s t ≡ true → t < n) → (calls : List Call)
+    → givenTo n c [] (add c p ∷ add c q ∷ add c r ∷ add c s ∷ calls) ≡ p ∷ q ∷ r ∷ s ∷ []
+a-fifth-set-is-not-taken = a-fifth-is-not-taken
+
 -- THE RANKING (ranking/specs/Ranking.antt).
 -- DEMAND 1: which number it answers; a refusal leaves the output, and the places after the n numbers stay
 pub rank-answers-by-the-table : (s : State) (out : List ℕ) (k : ℕ) → (rankOf s out .refusal ≡ k) ↔ RankAnswers s out k
@@ -400,6 +435,12 @@ the-ranking-is-a-permutation n ws = (ranking-length n ws, ranking-members n ws, 
 pub no-other-list-is : (n : ℕ) (ws : List ℕ) (xs : List ℕ) → SortedBy (ranksBefore ws) xs → ((c : ℕ) → (c ∈ xs) ↔ (c < n)) → xs ≡ rankingOf n ws
 no-other-list-is = ranking-unique
 
+-- `rank_sets`, which judges no state, writes the same where there are sets and places enough, and nothing elsewhere
+pub rank-sets-writes-the-ranking-or-nothing : (n : ℕ) (ws out : List ℕ)
+    → (n ≤ 256 → 4 * n ≤ length ws → n ≤ length out → rankInto n ws out ≡ rankingOf n ws ++ drop n out)
+    × (¬ ((n ≤ 256) × (4 * n ≤ length ws) × (n ≤ length out)) → rankInto n ws out ≡ out)
+rank-sets-writes-the-ranking-or-nothing n ws out = (rank-into-done n ws out, rank-into-none n ws out)
+
 -- REPLAY (replay/specs/Replay.antt).
 -- DEMAND 1: n is read and judged first; if n or the storage is refused, byte and header are 0 and nothing is written
 pub n-answers-by-the-table : (bs : List ℕ) (lent : Storage) (k : ℕ) → (containersIn bs lent .refusal ≡ k) ↔ ContainersAnswers bs lent k
@@ -408,6 +449,17 @@ n-answers-by-the-table = containers-answers
 pub a-refused-n-changes-nothing : (bs : List ℕ) (lent : Storage) (k : ℕ) → containersIn bs lent .refusal ≡ suc k
     → replayOf bs lent ≡ record { refusal = suc k; byte = 0; events = 0; gain = 0; state = record { header = record { containers = 0; count = 0; greatest = 0 }; storage = lent } }
 a-refused-n-changes-nothing = replay-not-begun
+
+-- n and the storage are accepted exactly if the header that comes back has containers
+pub a-replay-begins-exactly-if : (bs : List ℕ) (lent : Storage) → (containersIn bs lent .refusal ≡ 0) ↔ (replayOf bs lent .state .header .containers ≢ 0)
+a-replay-begins-exactly-if = begins-exactly-if
+
+-- the calls of records are these
+pub a-record-asks-for-an-enable : (number from to : ℕ) → callOf (Enable number from to) ≡ ask (enable (record { number = number; from = from; to = to }))
+a-record-asks-for-an-enable number from to = refl
+
+pub a-record-asks-for-a-disable : (number : ℕ) → callOf (Disable number) ≡ ask (disable number)
+a-record-asks-for-a-disable number = refl
 
 -- DEMANDS 1 AND 2: otherwise the replay is starting and the calls of its records. Replays says it in the paper's words: the events done, each accepted, and
 -- the state, the gain and the number as after them; complete, the bytes are the log of n and those events; refused, the bytes before `byte` are, and there
@@ -431,7 +483,7 @@ pub joining-stops : (n : ℕ) (h : History) (e : LogEvent) (es : List LogEvent) 
 unfolding joining
 joining-stops n h e es j = rw j refl
 
--- and of a log of n and events: where all are accepted it is complete; the first that is refused ends it where its record begins, whatever follows
+-- and of a log of n and events: where all are accepted it is complete; the first that is refused ends it where its record begins, whatever events follow
 pub an-accepted-log-is-complete : {bs : List ℕ} {n : ℕ} (lent : Storage) → IsSized n lent → {es : List LogEvent} → IsLog bs n es
     → AllAccepted (startOf n lent .state) (map callOf es)
     → replayOf bs lent
@@ -480,8 +532,8 @@ the-line-of-a-refusal = refused-line-words
 
 pub a-number-is-its-digits : (v : ℕ)
     → (numberOf (decimalOf v) ≡ v) × ((k : ℕ) → k < length (decimalOf v) → (48 ≤ getD (decimalOf v) k 0) × (getD (decimalOf v) k 0 ≤ 57))
-    × (10 ≤ v → getD (decimalOf v) 0 0 ≢ 48)
-a-number-is-its-digits v = (decimal-value v, decimal-digit v, decimal-front v)
+    × (10 ≤ v → getD (decimalOf v) 0 0 ≢ 48) × (v < 10 → decimalOf v ≡ (48 + v) ∷ [])
+a-number-is-its-digits v = (decimal-value v, decimal-digit v, decimal-front v, decimal-last v)
 
 -- every line ends with a newline and has no other
 pub every-line-ends : ((c : ℕ) (s : TagSet) → IsLine (lineOf c s)) × ((events gain : ℕ) → IsLine (eventsLine events gain)) × ((refusal byte : ℕ) → IsLine (refusedLine refusal byte))
@@ -512,18 +564,19 @@ the-lines-of-containers c cs ws = (line-by-line c cs ws, no-lines ws)
 -- a text that does not fit is refused with 10 and no byte is written; the tracker is left as the run leaves it, whatever the output; and the program's
 -- buffer always suffices
 pub a-short-output-keeps-its-bytes : (bs : List ℕ) (lent : Storage) (out : List ℕ) → length out < length (textOf bs lent)
-    → (tallyOf bs lent out .answer .refusal ≡ 10) × (tallyOf bs lent out .output ≡ out)
+    → (tallyOf bs lent out .answer ≡ unwritten 10) × (tallyOf bs lent out .output ≡ out)
 a-short-output-keeps-its-bytes = tally-short
 
 pub a-text-that-fits-is-written : (bs : List ℕ) (lent : Storage) (out : List ℕ) → length (textOf bs lent) ≤ length out
-    → (tallyOf bs lent out .answer .refusal ≡ 0) × (tallyOf bs lent out .output ≡ textOf bs lent ++ drop (length (textOf bs lent)) out)
+    → (tallyOf bs lent out .answer ≡ wrote (length (textOf bs lent))) × (tallyOf bs lent out .output ≡ textOf bs lent ++ drop (length (textOf bs lent)) out)
 a-text-that-fits-is-written = tally-fits
 
 pub tally-leaves-what-the-run-leaves : (bs : List ℕ) (lent : Storage) → (length bs ≤ 16384 → leftOf bs lent ≡ replayOf bs lent .state)
     × (16384 < length bs → leftOf bs lent ≡ record { header = record { containers = 0; count = 0; greatest = 0 }; storage = lent })
 tally-leaves-what-the-run-leaves bs lent = (left-of-run bs lent, left-of-long-input bs lent)
 
-pub the-buffer-of-tally-suffices : (bs : List ℕ) (lent : Storage) (out : List ℕ) → IsBytes bs → 264256 ≤ length out → tallyOf bs lent out .answer .refusal ≡ 0
+pub the-buffer-of-tally-suffices : (bs : List ℕ) (lent : Storage) (out : List ℕ) → IsBytes bs → 264256 ≤ length out
+    → tallyOf bs lent out .answer ≡ wrote (length (textOf bs lent))
 the-buffer-of-tally-suffices = tally-suffices
 
 -- THE RUNNING CALLS (src/lib.rt of each crate). The contract of each is one equation: what the call gives back and leaves in the lent lists (`leftBy`) makes up the
@@ -598,16 +651,40 @@ pub the-numbers-tell-answers-apart :
     × ((q r : Ranked) → rankedReply q ≡ rankedReply r → q ≡ r)
     × ((q r : Containers) → containersOf q ≡ containersOf r → q ≡ r)
     × ((q r : Ending) → endingOf q ≡ endingOf r → q ≡ r)
-the-numbers-tell-answers-apart = (tags-injective, size-injective, legal-injective, ranked-injective, containers-injective, ending-injective)
+    × ((q r : Encoded) → writingOf q ≡ writingOf r → q ≡ r)
+the-numbers-tell-answers-apart =
+    (tags-injective, size-injective, legal-injective, ranked-injective, containers-injective, ending-injective, writing-injective)
 
 -- so of a replay that runs: it is starting and the calls of its records, or it changes nothing
 pub what-replay-does : (bs : List ℕ) (lent : Storage) (r : Replayed) (tags policies counts : List ℕ) → runBy r tags policies counts ≡ replayOf bs lent
-    → ((k : ℕ) → containersIn bs lent .refusal ≡ suc k → stateOf (r .header) tags policies counts (r .flows) ≡ record { header = record { containers = 0; count = 0; greatest = 0 }; storage = lent })
-    × (IsBytes bs → containersIn bs lent .refusal ≡ 0 → Replays bs (headAt bs .value) lent (runBy r tags policies counts))
+    → ((k : ℕ) → containersIn bs lent .refusal ≡ suc k
+    → runBy r tags policies counts ≡ record { refusal = suc k; byte = 0; events = 0; gain = 0; state = record { header = record { containers = 0; count = 0; greatest = 0 }; storage = lent } })
+    × (IsBytes bs → containersIn bs lent .refusal ≡ 0 → Replays bs (headAt bs .value) lent (runBy r tags policies counts) × (r .events ≡ length (doneOf bs)))
 what-replay-does bs lent r tags policies counts e = (
-  λ k z. ap (λ (x : Run). x .state) (e ∙ replay-not-begun bs lent k z),
-  λ are b. subst (Replays bs (headAt bs .value) lent) (sym e) (replay-does bs lent are b),
+  λ k z. e ∙ replay-not-begun bs lent k z,
+  λ are b. (
+    subst (Replays bs (headAt bs .value) lent) (sym e) (replay-does bs lent are b),
+    ap (λ (x : Run). x .events) e ∙ replay-does bs lent are b .events ∙ ap length (replay-done bs lent are b),
+  ),
 )
+
+-- and of `tally` that runs: its text, written whole or not at all, and the tracker as the run leaves it
+pub what-tally-does : (bs : List ℕ) (lent : Storage) (out left : List ℕ) (r : Tallied) (tags policies counts : List ℕ)
+    → writingOf (r .reply) ≡ tallyOf bs lent out .answer → left ≡ tallyOf bs lent out .output
+    → stateOf (r .header) tags policies counts (r .flows) ≡ leftOf bs lent
+    → (length (textOf bs lent) ≤ length out → (writingOf (r .reply) ≡ wrote (length (textOf bs lent))) × (left ≡ textOf bs lent ++ drop (length (textOf bs lent)) out))
+    × (length out < length (textOf bs lent) → (writingOf (r .reply) ≡ unwritten 10) × (left ≡ out))
+    × (length bs ≤ 16384 → stateOf (r .header) tags policies counts (r .flows) ≡ replayOf bs lent .state)
+what-tally-does bs lent out left r tags policies counts a o s = (
+  λ h. let w = tally-fits bs lent out h in (a ∙ w .0, o ∙ w .1),
+  λ h. let w = tally-short bs lent out h in (a ∙ w .0, o ∙ w .1),
+  λ h. s ∙ left-of-run bs lent h,
+)
+
+-- the program prints the text: what its one function leaves at the start of its buffer, up to the length that it answers (tally/src/main.rt), is `printedOf`, the
+-- text of the input in a new tracker
+pub the-program-prints-the-text : (bs : List ℕ) → printedOf bs ≡ textOf bs newStorage
+the-program-prints-the-text bs = refl
 
 -- PROPAGATION runs in passes. One pass gives each container what it had, and what the sources of its edges had when the pass began
 pub a-pass-reads-the-sets-found : (n : ℕ) (es : List (ℕ × ℕ)) (ws : List ℕ) → 4 * n ≤ length ws → (c t : ℕ) → c < n
@@ -657,7 +734,8 @@ pub every-list-can-go-on-after-a-replay : (bs : List ℕ) (lent : Storage) → I
     → (s : State) × Called (headAt bs .value) lent (map callOf (doneOf bs) ++ calls) s
 every-list-can-go-on-after-a-replay = called-after-replay
 
--- DEMANDS 2 AND 3 of calls made one after the other, which left the state `s`; the list may begin with a replay, complete or refused partway, and go on
+-- DEMANDS 2 AND 3 of calls made one after the other, which left the state `s`; the list may begin with a replay, or with the
+-- tracker that `tally` left, complete or refused partway, and go on
 module _ (n : ℕ) (lent : Storage) (calls : List Call) (s : State) (made : Called n lent calls s) where
   -- it is the tracker of the claims on lists of calls
   same-state : tracker n lent (called-is made .0) calls ≡ s
@@ -680,6 +758,21 @@ module _ (n : ℕ) (lent : Storage) (calls : List Call) (s : State) (made : Call
 
   pub called-policy-sets-are-those-given : (c : ℕ) → c < n → SameSets (policiesOf s c) (givenTo n c [] calls)
   called-policy-sets-are-those-given = rw (sym same-state) (policies-are-those-given n lent (called-is made .0) calls)
+
+  -- what `tags_of` then tells is Flows, no question about a container below n is refused, and the ranking is written
+  pub called-tags-are-flows : (c t : ℕ) → c < n → (r : Tags) → tagsReply r ≡ tagsOf s c → (has (r .set) t ≡ true) ↔ Flows n (accepted n (eventsOf calls)) t c
+  called-tags-are-flows c t l r e =
+      let told : r .set ≡ setAt (s .storage .tags) c = ap (λ (x : Asked TagSet). x .value) e ∙ tags-told s c (answered .0) in
+      rw told (called-sets-are-flows c t l)
+    where
+      answered : (tagsOf s c .refusal ≡ 0) × (sizeAsked s c .refusal ≡ 0) × (legalOf s c .refusal ≡ 0)
+      answered = subst (λ (s : State). (tagsOf s c .refusal ≡ 0) × (sizeAsked s c .refusal ≡ 0) × (legalOf s c .refusal ≡ 0)) same-state (questions-are-answered n lent (called-is made .0) calls c l)
+
+  pub called-every-question-is-answered : (c : ℕ) → c < n → (tagsOf s c .refusal ≡ 0) × (sizeAsked s c .refusal ≡ 0) × (legalOf s c .refusal ≡ 0)
+  called-every-question-is-answered = rw (sym same-state) (questions-are-answered n lent (called-is made .0) calls)
+
+  pub called-the-ranking-is-written : (out : List ℕ) → n ≤ length out → rankOf s out .refusal ≡ 0
+  called-the-ranking-is-written = rw (sym same-state) (rank-is-answered n lent (called-is made .0) calls)
 
   -- what `is_legal` then answers
   pub called-legal-exactly-if-flows-permit : (c : ℕ) → c < n → (r : Legal) → legalReply r ≡ legalOf s c

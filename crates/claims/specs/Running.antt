@@ -27,6 +27,9 @@ use Rattle.replay.specs.Replies.{endingOf, runBy}
 use Rattle.replay.specs.Laws.{replay-does, replay-starts}
 use Rattle.replay.specs.Joins.{doneOf, replay-done}
 use Rattle.replay.specs.Numbers.{run-refusal}
+use Rattle.report.specs.declared.Tallied.{Tallied}
+use Rattle.report.specs.Text.{leftOf}
+use Rattle.report.specs.Laws.{left-of-run}
 use Rattle.outcome.specs.Outcome.{Outcome, noHeader, startOf, gainOf, enableOf, disableOf, addOf, Call, ask, add, outcomeOf, after}
 use Rattle.outcome.specs.Refusals.{start-refused, call-refused, call-unaccepted}
 use Rattle.outcome.specs.Table.{StartAnswers, start-answers, EnableAnswers, enable-answers, DisableAnswers, disable-answers, AddAnswers, add-answers, bad-size, invalid-state, no-such-from, no-such-to, self-flow, stale-number, table-full, not-enabled, no-such-container, unknown-tag, policy-full, accepted}
@@ -147,7 +150,7 @@ add-does s c p =
       keeps-valid = call-keeps IsValid s (add c p) (λ s u. u .valid);
     }
 
--- CALLS ONE AFTER THE OTHER: a start that was accepted, or a replay whose n and storage were, complete or refused partway; then calls, each on the header
+-- CALLS ONE AFTER THE OTHER: a start that was accepted, or a replay or a `tally` whose n and storage were, complete or refused partway; then calls, each on the header
 -- that the call before gave back and the lists that it left, refused or not. What is known of each call is its contract's equation alone. A replay counts as
 -- starting and the calls of its events: of those that its bytes hold, the first that join (`doneOf`), found from the bytes alone
 pub data Called (n : ℕ) (lent : Storage) : List Call → State → Type 0 where
@@ -156,6 +159,9 @@ pub data Called (n : ℕ) (lent : Storage) : List Call → State → Type 0 wher
   replayed : (bs : List ℕ) (are : IsBytes bs) (accepts : containersIn bs lent .refusal ≡ 0) → headAt bs .value ≡ n
       → (r : Replayed) (tags policies counts : List ℕ) → runBy r tags policies counts ≡ replayOf bs lent
       → Called n lent (map callOf (doneOf bs)) (runBy r tags policies counts .state)
+  tallied : (bs : List ℕ) (are : IsBytes bs) (accepts : containersIn bs lent .refusal ≡ 0) → headAt bs .value ≡ n → length bs ≤ 16384
+      → (r : Tallied) (tags policies counts : List ℕ) → stateOf (r .header) tags policies counts (r .flows) ≡ leftOf bs lent
+      → Called n lent (map callOf (doneOf bs)) (stateOf (r .header) tags policies counts (r .flows))
   called : {cs : List Call} {s : State} → Called n lent cs s → (c : Call) (r : Answered) (tags policies counts : List ℕ)
       → leftBy r tags policies counts ≡ outcomeOf s c
       → Called n lent (cs ++ (c ∷ [])) (leftBy r tags policies counts .state)
@@ -165,6 +171,15 @@ after-last : (cs : List Call) (s : State) (c : Call) → after s (cs ++ (c ∷ [
 unfolding after
 after-last [] s c = refl
 after-last (d ∷ cs) s c = after-last cs (outcomeOf s d .state) c
+
+-- what a replay leaves, by starting and the calls of its events
+replayed-is : (bs : List ℕ) (lent : Storage) (are : IsBytes bs) (accepts : containersIn bs lent .refusal ≡ 0) {n : ℕ} → headAt bs .value ≡ n
+    → (startOf n lent .answer .refusal ≡ 0) × (replayOf bs lent .state ≡ after (startOf n lent .state) (map callOf (doneOf bs)))
+replayed-is bs lent are accepts e = (
+  ap (λ (m : ℕ). startOf m lent .answer .refusal) (sym e) ∙ replay-starts bs lent accepts,
+  replay-does bs lent are accepts .state
+      ∙ ap₂ (λ (m : ℕ) (es : List LogEvent). after (startOf m lent .state) (map callOf es)) e (replay-done bs lent are accepts),
+)
 
 -- the state that they left is that of the definitions
 pub called-is : {n : ℕ} {lent : Storage} {cs : List Call} {s : State} → Called n lent cs s

@@ -1,5 +1,5 @@
 -- What the text of `tally` is, line by line, that a buffer of 264,256 bytes always holds it, and what is written where it does not fit. Assumes nothing.
-use mathlib.Core.Path.{_≡_, refl, sym, ap, _∙_}
+use mathlib.Core.Path.{_≡_, refl, sym, ap, ap₂, _∙_}
 use mathlib.Core.Bool.{Bool, true, not, _&&_, false≢true}
 use mathlib.Core.List.{List, [], _∷_, _++_, List·Memᴰ·head, List·Memᴰ·tail, List·Memᴰ·not-nil, List·Memᴰ·cases-cons}
 use mathlib.Core.Logic.{_≢_, _↔_, ⊎-elim, by-cases}
@@ -8,11 +8,14 @@ use native.Mathlib.Nat.{suc-ne-zero, zero-add, add-zero}
 use native.Mathlib.Decide.{decLt, ℕ-discrete}
 use native.Mathlib.Omega.{arith}
 use lib.Dec.{eqb}
-use lib.ListN.{length, getD, drop, length-append, List·getD-append}
-use lib.Seq.{getD-append-add}
+use lib.ListN.{length, getD, take, drop, length-append, List·getD-append}
+use lib.Seq.{getD-append-add, take-at}
 use borrow.Table.Steps.{cases}
 use borrow.Author.Tests.{lt-ltb, le-ltb, ne-eqb, eqb-false, not-true}
 use Rattle.truth.specs.Truth.{and-both}
+use Rattle.leb128.specs.declared.Encoded.{Encoded}
+use Rattle.leb128.specs.declared.Encoded.the-variants.{Next, ShortOutput}
+use Rattle.leb128.specs.Answer.{Writing, wrote, unwritten, writingOf}
 use Rattle.leb128.specs.Number.{IsBytes, Written}
 use Rattle.leb128.specs.Output.{overwrite-start, write-fits, write-short}
 use Rattle.eventlog.specs.Log.{headAt}
@@ -322,16 +325,28 @@ text-fits bs lent are =
 module _ (bs : List ℕ) (lent : Storage) (out : List ℕ) where
   -- a text that fits is written at the start, and what lies behind it stays
   pub tally-fits : length (textOf bs lent) ≤ length out
-      → (tallyOf bs lent out .answer .refusal ≡ 0) × (tallyOf bs lent out .output ≡ textOf bs lent ++ drop (length (textOf bs lent)) out)
+      → (tallyOf bs lent out .answer ≡ wrote (length (textOf bs lent))) × (tallyOf bs lent out .output ≡ textOf bs lent ++ drop (length (textOf bs lent)) out)
   tally-fits h =
       let e = write-fits out 0 (textOf bs lent) (omega arith) in
-      (ap (λ (w : Written). w .answer .refusal) e, ap (λ (w : Written). w .output) e ∙ overwrite-start out (textOf bs lent))
+      (ap (λ (w : Written). w .answer) e ∙ ap wrote (zero-add (length (textOf bs lent))), ap (λ (w : Written). w .output) e ∙ overwrite-start out (textOf bs lent))
 
   -- where it does not fit, 10 is answered and no byte is written
-  pub tally-short : length out < length (textOf bs lent) → (tallyOf bs lent out .answer .refusal ≡ 10) × (tallyOf bs lent out .output ≡ out)
+  pub tally-short : length out < length (textOf bs lent) → (tallyOf bs lent out .answer ≡ unwritten 10) × (tallyOf bs lent out .output ≡ out)
   tally-short h =
-      let e = write-short out 0 (textOf bs lent) (omega arith) in (ap (λ (w : Written). w .answer .refusal) e, ap (λ (w : Written). w .output) e)
+      let e = write-short out 0 (textOf bs lent) (omega arith) in (ap (λ (w : Written). w .answer) e, ap (λ (w : Written). w .output) e)
 
   -- 264,256 bytes are enough for every input
-  pub tally-suffices : IsBytes bs → 264256 ≤ length out → tallyOf bs lent out .answer .refusal ≡ 0
+  pub tally-suffices : IsBytes bs → 264256 ≤ length out → tallyOf bs lent out .answer ≡ wrote (length (textOf bs lent))
   tally-suffices are h = tally-fits (omega (arith, text-fits bs lent are)) .0
+
+  -- so what a call leaves up to the position that it answers is the text, and it does not answer 10
+  module _ (are : IsBytes bs) (h : 264256 ≤ length out) {r : Encoded} (a : writingOf r ≡ tallyOf bs lent out .answer) where
+    pub tally-prints : {left : List ℕ} → left ≡ tallyOf bs lent out .output → (p : ℕ) → r ≡ Next p → take p left ≡ textOf bs lent
+    tally-prints {left} o p n =
+        let e : p ≡ length (textOf bs lent) = ap (λ (w : Writing). w .next) (sym (ap writingOf n) ∙ a ∙ tally-suffices are h) in
+        let l : left ≡ textOf bs lent ++ drop (length (textOf bs lent)) out = o ∙ tally-fits (omega (arith, text-fits bs lent are)) .1 in
+        ap₂ take e l ∙ take-at (textOf bs lent) (drop (length (textOf bs lent)) out) (length (textOf bs lent)) refl
+
+    pub tally-not-short : r ≢ ShortOutput
+    tally-not-short n =
+        let z : _≡_ {A = ℕ} 10 0 = ap (λ (w : Writing). w .refusal) (sym (ap writingOf n) ∙ a ∙ tally-suffices are h) in omega (arith, z)

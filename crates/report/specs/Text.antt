@@ -3,12 +3,12 @@ use mathlib.Core.Bool.{Bool, cond}
 use mathlib.Core.List.{List, [], _∷_, _++_}
 use Prim.Native.Nat.{ℕ, zero, suc}
 use lib.Dec.{ltb, eqb}
-use lib.ListN.{length}
+use lib.ListN.{length, replicate}
 use Rattle.leb128.specs.Number.{Written, writeAt}
 use Rattle.decimal.specs.Decimal.{decimalOf}
 use Rattle.tagset.specs.declared.TagSet.{TagSet}
 use Rattle.tagset.specs.Set.{has, sizeOf}
-use Rattle.state.specs.State.{Storage, State, setAt}
+use Rattle.state.specs.State.{Storage, State, storageOf, setAt, noFlow}
 use Rattle.outcome.specs.Outcome.{noHeader}
 use Rattle.ranking.specs.Ranking.{rankingOf}
 use Rattle.replay.specs.Replay.{Run, replayOf}
@@ -77,6 +77,13 @@ runText r = reportOf (r .state .header .containers) (r .state .storage .tags) (r
 -- THE WHOLE TEXT of an input, run in this storage: 'longer input gives only `refused 10 at 16384`'
 unfoldable pub textOf : List ℕ → Storage → List ℕ
 textOf bs lent = cond (ltb 16384 (length bs)) (refusedLine 10 16384) (runText (replayOf bs lent))
+
+-- a new tracker's storage, as the program has it, and what the program prints of its input
+abbrev pub newStorage : Storage
+newStorage = storageOf (replicate 1024 0) (replicate 4096 0) (replicate 256 0) (replicate 512 noFlow)
+
+abbrev pub printedOf : List ℕ → List ℕ
+printedOf bs = textOf bs newStorage
 
 -- the tracker as the run leaves it; longer input is not run
 unfoldable pub leftOf : List ℕ → Storage → State

@@ -1,7 +1,11 @@
 // The program: reads a log from standard input, up to one byte more than it may have, and writes its report to standard output.
 use leb128::Encoded;
 use model::Flow;
+ghost use mathlib.Core.Path.{_≡_};
+ghost use Prim.Native.Nat.{_≤_};
+ghost use lib.ListN.{length, take};
 ghost use Rattle.io.specs.Counts.{Counts};
+ghost use Rattle.report.specs.Text.{printedOf};
 
 fn main() {
     let mut input = [0u8; 16385];
@@ -11,9 +15,11 @@ fn main() {
     io::write_all(libc::STDOUT_FILENO, &text[..length]);
 }
 
-// Puts the report of these bytes, run in a new tracker, at the start of `text`, and answers its length. The text always fits (law `tally-suffices`).
+// Puts the report of these bytes, run in a new tracker, at the start of `text`, and answers its length. The text always fits, so the last case is never taken.
 fn report_of(bytes: &[u8], text: &mut [u8]) -> usize
+    requires { ⌜ 264256 ≤ length (now text) ⌝ }
     ensures { λ r. ⌜ Counts r (now (text .exit)) ⌝ }
+    ensures { λ r. ⌜ take r (now (text .exit)) ≡ printedOf (now (bytes .entry)) ⌝ }
 {
     let mut tags = [0u64; 1024];
     let mut policies = [0u64; 4096];

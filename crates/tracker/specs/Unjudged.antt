@@ -1,5 +1,5 @@
--- Events on a state that is not judged: what `apply_enable` and `apply_disable` do, for every content of the storage. On a usable state their outcome
--- is that of the public calls (laws `apply-enable`, `apply-disable` of UnjudgedLaws.antt). Assumes nothing.
+-- Calls on a state that is not judged: what `apply_enable`, `apply_disable` and `apply_add` do. On a usable state their outcome is that of the public calls
+-- (laws `apply-enable`, `apply-disable`, `apply-add` of UnjudgedLaws.antt). Assumes nothing.
 use mathlib.Core.List.{List}
 use Prim.Native.Nat.{ℕ, _+_, _-_, min}
 use lib.ListN.{set, take}

@@ -1,4 +1,4 @@
--- A text that was written lies within the output. Assumes nothing.
+-- The text is at the start of the output, which it always fits. Assumes nothing.
 use mathlib.Core.Path.{_≡_, sym, ap, _∙_}
 use mathlib.Core.List.{List}
 use Prim.Native.Nat.{ℕ, _≤_}
@@ -12,6 +12,8 @@ use Rattle.leb128.specs.Answer.{Writing, writingOf}
 use Rattle.leb128.specs.Number.{writeAt, Written}
 use Rattle.leb128.specs.Output.{unrefused-fits, write-fits, write-length}
 use Rattle.io.specs.Counts.{Counts}
+use Rattle.report.specs.Text.{newStorage}
+use Rattle.report.specs.Laws.{tally-prints, tally-not-short}
 use Rattle.tally.proofs.report_of.Statement.{statement}
 use Rattle.tally.proofs.report_of.Tie as tie
 
@@ -52,14 +54,25 @@ same-length c = search needs
 
 returns : tie.Need-returns
 returns c =
-    let made = c .before .before .before .before .before .before .before .before .tally .ensures in
-    counts _ _ (c .before .reply .given .0 .0) (made .0) (made .1 .0) (c .before .reply .given .1)
+    let t = c .before .before .before .before .before .before .before .before in
+    let x = t .before .before .before .before .before .before .before in
+    let made = t .tally .ensures in
+    let told = c .before .reply .given .1 in (
+      counts _ _ (c .before .reply .given .0 .0) (made .0) (made .1 .0) told,
+      tally-prints (x .args .bytes .now) newStorage (x .args .text .now) (λ k. t .before .before .before .before .before .before .shared-slice-known .given k .fits) (omega arith)
+          (made .0) (made .1 .0) (c .before .reply .given .0 .0) told,
+    )
 
 same-length-2 : tie.Need-same-length-2
 same-length-2 c = search needs
 
 returns-2 : tie.Need-returns-2
-returns-2 c = search needs
+returns-2 c =
+    let t = c .before .before .before .before .before .before .before in
+    let x = t .before .before .before .before .before .before .before in
+    absurd
+    (tally-not-short (x .args .bytes .now) newStorage (x .args .text .now) (λ k. t .before .before .before .before .before .before .shared-slice-known .given k .fits) (omega arith)
+    (t .tally .ensures .0) (c .enum-told .given .1))
 
 pub report-of-spec : {M : Type 1} → statement M
 report-of-spec =

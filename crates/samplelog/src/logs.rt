@@ -1,9 +1,10 @@
 // Logs, records and heads: read and written, a line each.
-use crate::decimal;
-use crate::spaced;
-use crate::spaced_bytes;
-use crate::text;
-use crate::writing;
+use crate::example;
+use crate::print::decimal;
+use crate::print::spaced;
+use crate::print::spaced_bytes;
+use crate::print::text;
+use crate::print::writing;
 use eventlog::Event;
 use eventlog::Head;
 use eventlog::Record;
@@ -22,34 +23,7 @@ pub fn run() {
 
 // The log of document 01's example, and one without a record.
 fn whole() {
-    let example = [
-        5u8,
-        0,
-        1,
-        2,
-        3,
-        0,
-        2,
-        0,
-        1,
-        1,
-        2,
-        0,
-        3,
-        1,
-        2,
-        1,
-        1,
-        1,
-        3,
-        0,
-        4,
-        3,
-        4,
-        1,
-        4,
-    ];
-    log_line(&example);
+    log_line(&example::log());
     let none = [3u8];
     log_line(&none);
 }
@@ -259,54 +233,25 @@ fn length_line(e: Event) {
 // The example's log, written by one call for n and one for each event.
 fn example_written() {
     let mut out = [0u8; 25];
-    let n = put_head(&mut out, 5);
-    let a = put(
-        &mut out,
-        n,
-        Event::Enable {
-            number: 1,
-            from: 2,
-            to: 3,
-        },
-    );
-    let b = put(
-        &mut out,
-        a,
-        Event::Enable {
-            number: 2,
-            from: 0,
-            to: 1,
-        },
-    );
-    let c = put(&mut out, b, Event::Disable { number: 2 });
-    let d = put(
-        &mut out,
-        c,
-        Event::Enable {
-            number: 3,
-            from: 1,
-            to: 2,
-        },
-    );
-    let e = put(&mut out, d, Event::Disable { number: 1 });
-    let f = put(&mut out, e, Event::Disable { number: 3 });
-    let g = put(
-        &mut out,
-        f,
-        Event::Enable {
-            number: 4,
-            from: 3,
-            to: 4,
-        },
-    );
-    let end = put(&mut out, g, Event::Disable { number: 4 });
+    let end = put_example(&mut out);
     text(b"the example written:");
     spaced_bytes(&out, end);
     text(b"\n");
 }
 
+// Writes the example's log. The answer is the position after it.
+fn put_example(out: &mut [u8]) -> usize {
+    let mut at = put_head(out, 5);
+    let mut k: u32 = 1;
+    while k < 9 {
+        at = put(out, at, example::event(k));
+        k += 1;
+    }
+    at
+}
+
 // Writes n. The answer is the position after it, or 0 where it does not fit.
-fn put_head(out: &mut [u8], n: u32) -> usize {
+pub fn put_head(out: &mut [u8], n: u32) -> usize {
     match eventlog::write_head(out, n) {
         leb128::Encoded::Next(p) => p,
         leb128::Encoded::ShortOutput => 0,
@@ -314,7 +259,7 @@ fn put_head(out: &mut [u8], n: u32) -> usize {
 }
 
 // Writes a record. The answer is the position after it, or its own where it does not fit.
-fn put(out: &mut [u8], at: usize, e: Event) -> usize {
+pub fn put(out: &mut [u8], at: usize, e: Event) -> usize {
     match eventlog::write_record(out, at, e) {
         leb128::Encoded::Next(p) => p,
         leb128::Encoded::ShortOutput => at,

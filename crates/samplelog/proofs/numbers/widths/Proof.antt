@@ -1,8 +1,8 @@
 -- `samples::widths` ends. The measure is the widths left. Assumes nothing.
 use Prim.Native.Nat.{_-_}
 use borrow.Author.Needs.{needs}
-use Rattle.samples.proofs.widths.Statement.{statement}
-use Rattle.samples.proofs.widths.Tie as tie
+use Rattle.samplelog.proofs.numbers.widths.Statement.{statement}
+use Rattle.samplelog.proofs.numbers.widths.Tie as tie
 
 abbrev Inv-loop : tie.InvT-loop
 Inv-loop width₀ width = Unit {0}

@@ -1,8 +1,8 @@
 -- `samples::spaced_tags` ends. The measure is the tags left. Assumes nothing.
 use Prim.Native.Nat.{_-_}
 use borrow.Author.Needs.{needs}
-use Rattle.samples.proofs.spaced_tags.Statement.{statement}
-use Rattle.samples.proofs.spaced_tags.Tie as tie
+use Rattle.samplelog.proofs.print.spaced_tags.Statement.{statement}
+use Rattle.samplelog.proofs.print.spaced_tags.Tie as tie
 
 abbrev Inv-loop : tie.InvT-loop
 Inv-loop s t₀ t = Unit {0}

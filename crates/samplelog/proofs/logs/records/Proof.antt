@@ -1,4 +1,4 @@
--- `samples::logs::records` ends. The measure is the bytes left: a record ends past where it begins. Assumes nothing.
+-- `samplelog::logs::records` ends. The measure is the bytes left: a record ends past where it begins. Assumes nothing.
 use mathlib.Core.Path.{_≡_, sym, ap, _∙_}
 use mathlib.Core.List.{List}
 use Prim.Native.Nat.{ℕ, _-_, _<_}
@@ -12,8 +12,8 @@ use Rattle.eventlog.specs.declared.Record.the-variants.{Holds}
 use Rattle.eventlog.specs.Answer.{recordReadingOf}
 use Rattle.eventlog.specs.Log.{recordAt}
 use Rattle.eventlog.specs.Laws.{accepted-is, record-past, record-inside}
-use Rattle.samples.proofs.logs.records.Statement.{statement}
-use Rattle.samples.proofs.logs.records.Tie as tie
+use Rattle.samplelog.proofs.logs.records.Statement.{statement}
+use Rattle.samplelog.proofs.logs.records.Tie as tie
 
 -- fewer bytes are left after a record
 fewer : (s : List ℕ) (at : ℕ) (r : Record) (e : Event) (next : ℕ) → IsBytes s → recordReadingOf r ≡ recordAt s at → r ≡ Holds e next → length s - next < length s - at
