@@ -5,6 +5,7 @@ use mathlib.Core.List.{List, [], _∷_, _++_, map, append-assoc, append-nil}
 use mathlib.Core.Logic.{_↔_, _≢_}
 use Prim.Native.Nat.{ℕ, zero, suc, _+_, _≤_}
 use native.Mathlib.Omega.{arith}
+use lib.ListN.{length}
 use Rattle.model.specs.declared.Flow.{Flow}
 use Rattle.model.specs.Model.{enable, disable, without}
 use Rattle.tagset.specs.declared.TagSet.{TagSet}
@@ -187,11 +188,9 @@ pub called-is : {n : ℕ} {lent : Storage} {cs : List Call} {s : State} → Call
 unfolding after
 called-is (begun r tags policies counts e a) = (ap (λ (o : Outcome). o .answer .refusal) (sym e) ∙ a, ap (λ (o : Outcome). o .state) e)
 called-is {n} {lent} (replayed bs are accepts e r tags policies counts q) =
-    let w = replay-does bs lent are accepts in (
-      ap (λ (m : ℕ). startOf m lent .answer .refusal) (sym e) ∙ replay-starts bs lent accepts,
-      ap (λ (x : Run). x .state) q ∙ w .state
-          ∙ ap₂ (λ (m : ℕ) (es : List LogEvent). after (startOf m lent .state) (map callOf es)) e (replay-done bs lent are accepts),
-    )
+    let w = replayed-is bs lent are accepts e in (w .0, ap (λ (x : Run). x .state) q ∙ w .1)
+called-is {n} {lent} (tallied bs are accepts e short r tags policies counts q) =
+    let w = replayed-is bs lent are accepts e in (w .0, q ∙ left-of-run bs lent short ∙ w .1)
 called-is {n} {lent} (called {cs} {s} x c r tags policies counts e) =
     let w = called-is x in
     (w .0, ap (λ (o : Outcome). o .state) e ∙ ap (λ (t : State). outcomeOf t c .state) (w .1) ∙ sym (after-last cs (startOf n lent .state) c))
