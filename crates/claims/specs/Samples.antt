@@ -4,7 +4,7 @@ use mathlib.Core.Path.{_≡_, refl}
 use mathlib.Core.Bool.{Bool, true, false}
 use mathlib.Core.List.{List, [], _∷_, _++_, map}
 use Prim.Native.Nat.{ℕ, _+_, _*_}
-use lib.ListN.{replicate, getD}
+use lib.ListN.{replicate}
 use Rattle.leb128.specs.Number.{groups, formOf, valueOf, continued, judged, decodeAt}
 use Rattle.eventlog.specs.Answer.{eventOf}
 use Rattle.eventlog.specs.Log.{formsOf, fieldsAt, recordAt, eventsWithin}

@@ -1,19 +1,17 @@
 -- Adding a policy set: what an accepted one leaves, and that it leaves a usable state. Assumes nothing.
 use mathlib.Core.Path.{_≡_, refl, sym, ap, _∙_, subst}
 use mathlib.Core.Bool.{true}
-use mathlib.Core.List.{List}
 use mathlib.Core.Logic.{_↔_, _≢_, by-cases}
 use Prim.Native.Nat.{ℕ, _+_, _*_, _/_, _%_, _≤_, _<_}
 use native.Mathlib.Decide.{ℕ-discrete}
 use native.Mathlib.Omega.{arith}
-use lib.ListN.{length, getD, set, drop, length-set}
+use lib.ListN.{length, getD, drop, length-set}
 use lib.Seq.{getD-set-same, getD-set-other, drop-set-lt}
 use Rattle.refusal.specs.Order.{firstOf}
 use Rattle.tagset.specs.declared.TagSet.{TagSet}
 use Rattle.tagset.specs.Set.{has}
-use Rattle.state.specs.declared.Header.{Header}
 use Rattle.state.specs.State.{State, policyCount, policyAt, setAt, flowsOf}
-use Rattle.state.specs.IsValid.{IsValid, Usable}
+use Rattle.state.specs.IsValid.{Usable}
 use Rattle.tagstore.specs.Laws.{put-length, put-other, put-has, put-other-set, put-beyond}
 use Rattle.outcome.specs.Outcome.{addOrder, adding, addOf}
 use Rattle.outcome.specs.Refusals.{decided-done}

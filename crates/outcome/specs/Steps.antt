@@ -10,7 +10,7 @@ use lib.Dec.{eqb}
 use lib.ListN.{length, getD}
 use Rattle.refusal.specs.Order.{firstOf}
 use Rattle.model.specs.declared.Flow.{Flow}
-use Rattle.model.specs.Model.{_∈_, Event, enable, disable, without, edgesOf}
+use Rattle.model.specs.Model.{_∈_, enable, disable, without, edgesOf}
 use Rattle.model.specs.Closure.{Within, reaches-sound, reaches-complete}
 use Rattle.model.specs.Standing.{without-part}
 use Rattle.tagset.specs.declared.TagSet.{TagSet}

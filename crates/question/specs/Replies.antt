@@ -6,7 +6,6 @@ use Prim.Native.Nat.{ℕ}
 use lib.Dec.{eqb}
 use Rattle.refusal.specs.Order.{firstOf}
 use Rattle.tagset.specs.declared.TagSet.{TagSet}
-use Rattle.tagset.specs.Set.{emptySet}
 use Rattle.question.specs.Question.{Asked}
 use Rattle.question.specs.declared.Tags.{Tags}
 use Rattle.question.specs.declared.Asking.{Asking}

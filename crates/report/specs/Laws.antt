@@ -1,7 +1,7 @@
 -- What the text of `tally` is, line by line, that a buffer of 264,256 bytes always holds it, and what is written where it does not fit. Assumes nothing.
 use mathlib.Core.Path.{_≡_, refl, sym, ap, ap₂, _∙_}
 use mathlib.Core.Bool.{Bool, true, not, _&&_, false≢true}
-use mathlib.Core.List.{List, [], _∷_, _++_, List·Memᴰ·head, List·Memᴰ·tail, List·Memᴰ·not-nil, List·Memᴰ·cases-cons}
+use mathlib.Core.List.{List, [], _∷_, _++_, List·Memᴰ·head, List·Memᴰ·tail, List·Memᴰ·not-nil, List·Memᴰ·cases-cons, map}
 use mathlib.Core.Logic.{_≢_, _↔_, ⊎-elim, by-cases}
 use Prim.Native.Nat.{ℕ, zero, suc, _+_, _-_, _≤_, _<_}
 use native.Mathlib.Nat.{suc-ne-zero, zero-add, add-zero}
@@ -34,6 +34,7 @@ use Rattle.replay.specs.declared.Replayed.{Replayed}
 use Rattle.replay.specs.Replay.{Run, replayOf, containersIn}
 use Rattle.replay.specs.Replies.{runBy, endingOf}
 use Rattle.replay.specs.Laws.{replay-not-begun, replay-containers, replay-events}
+use Rattle.report.specs.Words.{spacedWords, lineWith, line-words, events-line-words, refused-line-words}
 use Rattle.report.specs.Text.{eventsWord, gainWord, refusedWord, atWord, space, newline, those, tagsRising, spaced, lineOf, linesOf, eventsLine, refusedLine, lastLine, reportOf, runText, textOf, leftOf, tallyOf}
 use Rattle.report.specs.Pieces.{those-in, those-out, spaced-one, lines-length, ranking-below}
 use Rattle.replay.specs.Numbers.{run-room, run-gain, run-refusal, run-byte}
@@ -232,12 +233,6 @@ both bs cs h g k l =
 digits : (v : ℕ) → NoNewline (decimalOf v)
 digits v k l e = omega (arith, decimal-digit v k l .0)
 
--- numbers, each after a space
-numbers : (vs : List ℕ) → NoNewline (spaced vs)
-unfolding spaced
-numbers [] = none
-numbers (v ∷ vs) = both (space ∷ decimalOf v) (spaced vs) (one-more space (decimalOf v) (λ e. omega arith) (digits v)) (numbers vs)
-
 -- whether there is none, computed
 lacks : List ℕ → Bool
 lacks [] = true
@@ -250,36 +245,45 @@ word [] e = none
 word (b ∷ bs) e =
     let h = and-both (not (eqb b newline)) (lacks bs) e in one-more b bs (eqb-false b newline (not-true (eqb b newline) (h .0))) (word bs (h .1))
 
--- two words, each with a number after it
-pair : (u v : List ℕ) (a b : ℕ) → lacks u ≡ true → lacks v ≡ true → IsLine (u ++ spaced (a ∷ []) ++ v ++ spaced (b ∷ []) ++ (newline ∷ []))
-pair u v a b h g =
-    record {
-      body = u ++ spaced (a ∷ []) ++ v ++ spaced (b ∷ []);
-      ends = refl;
-      single =
-          both (u ++ spaced (a ∷ []) ++ v) (spaced (b ∷ []))
-          (both (u ++ spaced (a ∷ [])) v (both u (spaced (a ∷ [])) (word u h) (numbers (a ∷ []))) (word v g)) (numbers (b ∷ []));
-    }
+-- words
+Each : List (List ℕ) → Type 0
+Each [] = Unit {0}
+Each (w ∷ ws) = NoNewline w × Each ws
 
--- a container's line is one line
+-- words, each behind a space
+behind : (ws : List (List ℕ)) → Each ws → NoNewline (spacedWords ws)
+unfolding Each spacedWords
+behind [] h = none
+behind (w ∷ ws) h = both (space ∷ w) (spacedWords ws) (one-more space w (λ e. omega arith) (h .0)) (behind ws (h .1))
+
+-- numbers are such words
+numbers : (vs : List ℕ) → Each (map decimalOf vs)
+unfolding Each
+numbers [] = tt
+numbers (v ∷ vs) = (digits v, numbers vs)
+
+-- a line of words is one line
+words-end : (w : List ℕ) (ws : List (List ℕ)) → NoNewline w → Each ws → IsLine (lineWith w ws)
+unfolding lineWith
+words-end w ws h g = record { body = w ++ spacedWords ws; ends = refl; single = both w (spacedWords ws) h (behind ws g) }
+
+-- so a container's is
 pub line-ends : (c : ℕ) (s : TagSet) → IsLine (lineOf c s)
-unfolding lineOf
-line-ends c s =
-    record {
-      body = decimalOf c ++ spaced (sizeOf s ∷ tagsRising s);
-      ends = refl;
-      single = both (decimalOf c) (spaced (sizeOf s ∷ tagsRising s)) (digits c) (numbers (sizeOf s ∷ tagsRising s));
-    }
+line-ends c s = rw (line-words c s) (words-end (decimalOf c) (map decimalOf (sizeOf s ∷ tagsRising s)) (digits c) (numbers (sizeOf s ∷ tagsRising s)))
 
--- and so is the line of what was done
+-- and so is that of what was done
 pub events-line-ends : (events gain : ℕ) → IsLine (eventsLine events gain)
-unfolding eventsLine lacks
-events-line-ends events gain = pair eventsWord (space ∷ gainWord) events gain refl refl
+unfolding lacks Each
+events-line-ends events gain =
+    rw (events-line-words events gain)
+    (words-end eventsWord (decimalOf events ∷ gainWord ∷ decimalOf gain ∷ []) (word eventsWord refl) (digits events, (word gainWord refl, (digits gain, tt))))
 
 -- and that of a refusal
 pub refused-line-ends : (refusal byte : ℕ) → IsLine (refusedLine refusal byte)
-unfolding refusedLine lacks
-refused-line-ends refusal byte = pair refusedWord (space ∷ atWord) refusal byte refl refl
+unfolding lacks Each
+refused-line-ends refusal byte =
+    rw (refused-line-words refusal byte)
+    (words-end refusedWord (decimalOf refusal ∷ atWord ∷ decimalOf byte ∷ []) (word refusedWord refl) (digits refusal, (word atWord refl, (digits byte, tt))))
 
 -- HOW LONG IT IS
 

@@ -1,5 +1,3 @@
-// Samples on calls and logs: starting, the full table, refused events, policy sets, questions, the ranking, replays, and the text of `tally`.
+// Samples on calls: starting, the full table, refused events, policy sets, questions, the ranking.
 pub mod calls;
-pub mod replays;
 pub mod starts;
-pub mod texts;

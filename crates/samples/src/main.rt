@@ -7,6 +7,6 @@ fn main() {
     samplestates::tables::run();
     sampleruns::calls::run();
     samplestates::states::run();
-    sampleruns::replays::run();
-    sampleruns::texts::run();
+    sampletexts::replays::run();
+    sampletexts::texts::run();
 }

@@ -1,7 +1,7 @@
 -- What a call comes to once the storage is judged: the refusal 9 or 12, or the work. Assumes nothing.
 use mathlib.Core.Path.{_≡_, refl, sym, ap, _∙_}
 use mathlib.Core.Bool.{Bool, true, false}
-use mathlib.Core.List.{List, [], _++_}
+use mathlib.Core.List.{List, []}
 use Prim.Native.Nat.{ℕ, suc, _*_, _/_, min}
 use native.Mathlib.Omega.{arith}
 use lib.ListN.{length, drop, replicate, drop-of-length-le}

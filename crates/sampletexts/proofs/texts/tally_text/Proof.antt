@@ -2,8 +2,8 @@
 use native.Mathlib.Omega.{arith}
 use lib.ListN.{length-take}
 use borrow.Author.Needs.{needs}
-use Rattle.sampleruns.proofs.texts.tally_text.Statement.{statement}
-use Rattle.sampleruns.proofs.texts.tally_text.Tie as tie
+use Rattle.sampletexts.proofs.texts.tally_text.Statement.{statement}
+use Rattle.sampletexts.proofs.texts.tally_text.Tie as tie
 
 slice-aggregate-text : tie.Need-slice-aggregate-text
 slice-aggregate-text c = search needs

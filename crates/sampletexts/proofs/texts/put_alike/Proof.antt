@@ -1,25 +1,22 @@
--- `samples::texts::put_ring` ends. The measure is the flows left. Assumes nothing.
+-- `samples::texts::put_alike` ends. The measure is the flows left. Assumes nothing.
 use Prim.Native.Nat.{_≤_, _-_}
 use mathlib.Core.Path.{_≡_}
 use lib.ListN.{length}
 use borrow.Author.Needs.{needs}
-use Rattle.sampleruns.proofs.texts.put_ring.Statement.{statement}
-use Rattle.sampleruns.proofs.texts.put_ring.Tie as tie
+use Rattle.sampletexts.proofs.texts.put_alike.Statement.{statement}
+use Rattle.sampletexts.proofs.texts.put_alike.Tie as tie
 
 abbrev Inv-loop : tie.InvT-loop
-Inv-loop log₀ at₀ k₀ log at k = (1 ≤ k) × (k ≤ 257) × (length log ≡ length log₀)
+Inv-loop log₀ at₀ k₀ log at k = (k ≤ 514) × (length log ≡ length log₀)
 
 abbrev μ-loop : tie.MeasureT-loop
-μ-loop log₀ at₀ k₀ log at k = 257 - k
+μ-loop log₀ at₀ k₀ log at k = 514 - k
 
 put-head-requires : tie.Need-put-head-requires Inv-loop μ-loop
 put-head-requires c κs = search needs
 
 loop-holds : tie.Need-loop-holds Inv-loop μ-loop
 loop-holds c = search needs
-
-sub-enable : tie.Need-sub-enable Inv-loop μ-loop
-sub-enable c = search needs
 
 enable-requires : tie.Need-enable-requires Inv-loop μ-loop
 enable-requires c κs = search needs
@@ -42,15 +39,14 @@ same-length c = search needs
 returns : tie.Need-returns Inv-loop μ-loop
 returns c = search needs
 
-pub put-ring-spec : {M : Type 1} → statement M
-put-ring-spec =
+pub put-alike-spec : {M : Type 1} → statement M
+put-alike-spec =
     tie.close
     (tie.spec
     Inv-loop
     μ-loop
     put-head-requires
     loop-holds
-    sub-enable
     enable-requires
     put-requires
     add-k

@@ -2,8 +2,8 @@
 use native.Mathlib.Omega.{arith}
 use lib.ListN.{length-take}
 use borrow.Author.Needs.{needs}
-use Rattle.sampleruns.proofs.texts.front_text.Statement.{statement}
-use Rattle.sampleruns.proofs.texts.front_text.Tie as tie
+use Rattle.sampletexts.proofs.texts.front_text.Statement.{statement}
+use Rattle.sampletexts.proofs.texts.front_text.Tie as tie
 
 slice-aggregate-tally-text : tie.Need-slice-aggregate-tally-text
 slice-aggregate-tally-text c = simp length-take (omega arith)

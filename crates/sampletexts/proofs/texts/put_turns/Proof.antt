@@ -1,16 +1,16 @@
--- `samples::texts::put_alike` ends. The measure is the flows left. Assumes nothing.
+-- `samples::texts::put_turns` ends. The measure is the flows left. Assumes nothing.
 use Prim.Native.Nat.{_≤_, _-_}
 use mathlib.Core.Path.{_≡_}
 use lib.ListN.{length}
 use borrow.Author.Needs.{needs}
-use Rattle.sampleruns.proofs.texts.put_alike.Statement.{statement}
-use Rattle.sampleruns.proofs.texts.put_alike.Tie as tie
+use Rattle.sampletexts.proofs.texts.put_turns.Statement.{statement}
+use Rattle.sampletexts.proofs.texts.put_turns.Tie as tie
 
 abbrev Inv-loop : tie.InvT-loop
-Inv-loop log₀ at₀ k₀ log at k = (k ≤ 514) × (length log ≡ length log₀)
+Inv-loop log₀ at₀ k₀ log at k = (k ≤ 2080) × (length log ≡ length log₀)
 
 abbrev μ-loop : tie.MeasureT-loop
-μ-loop log₀ at₀ k₀ log at k = 514 - k
+μ-loop log₀ at₀ k₀ log at k = 2080 - k
 
 put-head-requires : tie.Need-put-head-requires Inv-loop μ-loop
 put-head-requires c κs = search needs
@@ -24,6 +24,9 @@ enable-requires c κs = search needs
 put-requires : tie.Need-put-requires Inv-loop μ-loop
 put-requires c κs = search needs
 
+put-requires-2 : tie.Need-put-requires-2 Inv-loop μ-loop
+put-requires-2 c κs = search needs
+
 add-k : tie.Need-add-k Inv-loop μ-loop
 add-k c = search needs
 
@@ -33,14 +36,20 @@ loop-less c = search needs
 loop-again : tie.Need-loop-again Inv-loop μ-loop
 loop-again c = search needs
 
+enable-requires-2 : tie.Need-enable-requires-2 Inv-loop μ-loop
+enable-requires-2 c κs = search needs
+
+put-requires-3 : tie.Need-put-requires-3 Inv-loop μ-loop
+put-requires-3 c κs = search needs
+
 same-length : tie.Need-same-length Inv-loop μ-loop
 same-length c = search needs
 
 returns : tie.Need-returns Inv-loop μ-loop
 returns c = search needs
 
-pub put-alike-spec : {M : Type 1} → statement M
-put-alike-spec =
+pub put-turns-spec : {M : Type 1} → statement M
+put-turns-spec =
     tie.close
     (tie.spec
     Inv-loop
@@ -49,8 +58,11 @@ put-alike-spec =
     loop-holds
     enable-requires
     put-requires
+    put-requires-2
     add-k
     loop-less
     loop-again
+    enable-requires-2
+    put-requires-3
     same-length
     returns)

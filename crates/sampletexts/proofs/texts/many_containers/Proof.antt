@@ -2,8 +2,8 @@
 use native.Mathlib.Omega.{arith}
 use lib.ListN.{length-take}
 use borrow.Author.Needs.{needs}
-use Rattle.sampleruns.proofs.texts.many_containers.Statement.{statement}
-use Rattle.sampleruns.proofs.texts.many_containers.Tie as tie
+use Rattle.sampletexts.proofs.texts.many_containers.Statement.{statement}
+use Rattle.sampletexts.proofs.texts.many_containers.Tie as tie
 
 slice-aggregate-tally-length : tie.Need-slice-aggregate-tally-length
 slice-aggregate-tally-length c = search needs

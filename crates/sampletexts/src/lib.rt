@@ -1,0 +1,3 @@
+// Samples on whole logs: replays, and the text of `tally`.
+pub mod replays;
+pub mod texts;
