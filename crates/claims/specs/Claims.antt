@@ -68,8 +68,8 @@ use Rattle.ranking.specs.Laws.{ranks-before-iff, ranking-length, ranking-member
 use Rattle.replay.specs.declared.Containers.{Containers}
 use Rattle.replay.specs.declared.Ending.{Ending}
 use Rattle.replay.specs.declared.Replayed.{Replayed}
-use Rattle.replay.specs.Replay.{Run, eventIn, callOf, containersIn, replayOf}
-use Rattle.replay.specs.Replies.{endingOf, runBy, containersOf, ending-injective, containers-injective}
+use Rattle.replay.specs.Replay.{Replay, eventIn, callOf, containersIn, replayOf}
+use Rattle.replay.specs.Replies.{endingOf, replayBy, containersOf, ending-injective, containers-injective}
 use Rattle.replay.specs.Laws.{AllAccepted, gainsOf, ContainersAnswers, containers-answers, replay-not-begun, Replays, replay-does, replay-log, replay-log-refused, replay-usable, replay-containers, replay-beyond}
 use Rattle.replay.specs.Joins.{joining, doneOf, replay-done}
 use Rattle.replay.specs.Numbers.{begins-exactly-if}
@@ -78,7 +78,7 @@ use Rattle.decimal.specs.Laws.{decimal-last, decimal-value, decimal-digit, deci
 use Rattle.report.specs.Text.{eventsWord, gainWord, refusedWord, atWord, tagsRising, lineOf, linesOf, eventsLine, refusedLine, textOf, newStorage, printedOf, leftOf, tallyOf}
 use Rattle.report.specs.declared.Tallied.{Tallied}
 use Rattle.report.specs.Words.{lineWith, line-words, events-line-words, refused-line-words, no-lines, line-by-line}
-use Rattle.report.specs.Laws.{tags-members, tags-rising, tags-count, IsLine, line-ends, events-line-ends, refused-line-ends, text-of-long-input, text-of-unusable-n, text-of-complete-run, text-of-refused-run, left-of-run, left-of-long-input, tally-short, tally-fits, tally-suffices}
+use Rattle.report.specs.Laws.{tags-members, tags-rising, tags-count, IsLine, line-ends, events-line-ends, refused-line-ends, text-of-long-input, text-of-unusable-n, text-of-complete-replay, text-of-refused-replay, left-of-replay, left-of-long-input, tally-short, tally-fits, tally-suffices}
 use Rattle.claims.specs.Permission.{takes, givenTo, SameSets, takes-exactly-if, list-follows, policies-are-those-given, questions-are-answered, others-are-no-container, rank-is-answered, legal-exactly-if-given, same-set-twice-takes-two-places, a-fifth-is-not-taken}
 
 -- THE DEFINITIONS: model/specs/Model.antt (containers, flows, executions; no word of a tracker) and Reach.antt; state/specs/State.antt and Valid.antt;
@@ -546,17 +546,17 @@ the-text-of-long-input = text-of-long-input
 pub the-text-without-n : (bs : List ℕ) (lent : Storage) → length bs ≤ 16384 → (k : ℕ) → containersIn bs lent .refusal ≡ suc k → textOf bs lent ≡ refusedLine (suc k) 0
 the-text-without-n = text-of-unusable-n
 
-pub the-text-of-a-complete-run : (bs : List ℕ) (lent : Storage) → length bs ≤ 16384 → containersIn bs lent .refusal ≡ 0 → replayOf bs lent .refusal ≡ 0
+pub the-text-of-a-complete-replay : (bs : List ℕ) (lent : Storage) → length bs ≤ 16384 → containersIn bs lent .refusal ≡ 0 → replayOf bs lent .refusal ≡ 0
     → textOf bs lent
     ≡ linesOf (rankingOf (headAt bs .value) (replayOf bs lent .state .storage .tags)) (replayOf bs lent .state .storage .tags)
     ++ eventsLine (replayOf bs lent .events) (replayOf bs lent .gain)
-the-text-of-a-complete-run = text-of-complete-run
+the-text-of-a-complete-replay = text-of-complete-replay
 
-pub the-text-of-a-refused-run : (bs : List ℕ) (lent : Storage) → length bs ≤ 16384 → containersIn bs lent .refusal ≡ 0 → (k : ℕ) → replayOf bs lent .refusal ≡ suc k
+pub the-text-of-a-refused-replay : (bs : List ℕ) (lent : Storage) → length bs ≤ 16384 → containersIn bs lent .refusal ≡ 0 → (k : ℕ) → replayOf bs lent .refusal ≡ suc k
     → textOf bs lent
     ≡ linesOf (rankingOf (headAt bs .value) (replayOf bs lent .state .storage .tags)) (replayOf bs lent .state .storage .tags)
     ++ refusedLine (suc k) (replayOf bs lent .byte)
-the-text-of-a-refused-run = text-of-refused-run
+the-text-of-a-refused-replay = text-of-refused-replay
 
 pub the-lines-of-containers : (c : ℕ) (cs ws : List ℕ) → (linesOf (c ∷ cs) ws ≡ lineOf c (setAt ws c) ++ linesOf cs ws) × (linesOf [] ws ≡ [])
 the-lines-of-containers c cs ws = (line-by-line c cs ws, no-lines ws)
@@ -571,9 +571,9 @@ pub a-text-that-fits-is-written : (bs : List ℕ) (lent : Storage) (out : List �
     → (tallyOf bs lent out .answer ≡ wrote (length (textOf bs lent))) × (tallyOf bs lent out .output ≡ textOf bs lent ++ drop (length (textOf bs lent)) out)
 a-text-that-fits-is-written = tally-fits
 
-pub tally-leaves-what-the-run-leaves : (bs : List ℕ) (lent : Storage) → (length bs ≤ 16384 → leftOf bs lent ≡ replayOf bs lent .state)
+pub tally-leaves-what-the-replay-leaves : (bs : List ℕ) (lent : Storage) → (length bs ≤ 16384 → leftOf bs lent ≡ replayOf bs lent .state)
     × (16384 < length bs → leftOf bs lent ≡ record { header = record { containers = 0; count = 0; greatest = 0 }; storage = lent })
-tally-leaves-what-the-run-leaves bs lent = (left-of-run bs lent, left-of-long-input bs lent)
+tally-leaves-what-the-replay-leaves bs lent = (left-of-replay bs lent, left-of-long-input bs lent)
 
 pub the-buffer-of-tally-suffices : (bs : List ℕ) (lent : Storage) (out : List ℕ) → IsBytes bs → 264256 ≤ length out
     → tallyOf bs lent out .answer ≡ wrote (length (textOf bs lent))
@@ -656,15 +656,15 @@ the-numbers-tell-answers-apart =
     (tags-injective, size-injective, legal-injective, ranked-injective, containers-injective, ending-injective, writing-injective)
 
 -- so of a replay that runs: it is starting and the calls of its records, or it changes nothing
-pub what-replay-does : (bs : List ℕ) (lent : Storage) (r : Replayed) (tags policies counts : List ℕ) → runBy r tags policies counts ≡ replayOf bs lent
+pub what-replay-does : (bs : List ℕ) (lent : Storage) (r : Replayed) (tags policies counts : List ℕ) → replayBy r tags policies counts ≡ replayOf bs lent
     → ((k : ℕ) → containersIn bs lent .refusal ≡ suc k
-    → runBy r tags policies counts ≡ record { refusal = suc k; byte = 0; events = 0; gain = 0; state = record { header = record { containers = 0; count = 0; greatest = 0 }; storage = lent } })
-    × (IsBytes bs → containersIn bs lent .refusal ≡ 0 → Replays bs (headAt bs .value) lent (runBy r tags policies counts) × (r .events ≡ length (doneOf bs)))
+    → replayBy r tags policies counts ≡ record { refusal = suc k; byte = 0; events = 0; gain = 0; state = record { header = record { containers = 0; count = 0; greatest = 0 }; storage = lent } })
+    × (IsBytes bs → containersIn bs lent .refusal ≡ 0 → Replays bs (headAt bs .value) lent (replayBy r tags policies counts) × (r .events ≡ length (doneOf bs)))
 what-replay-does bs lent r tags policies counts e = (
   λ k z. e ∙ replay-not-begun bs lent k z,
   λ are b. (
     subst (Replays bs (headAt bs .value) lent) (sym e) (replay-does bs lent are b),
-    ap (λ (x : Run). x .events) e ∙ replay-does bs lent are b .events ∙ ap length (replay-done bs lent are b),
+    ap (λ (x : Replay). x .events) e ∙ replay-does bs lent are b .events ∙ ap length (replay-done bs lent are b),
   ),
 )
 
@@ -678,7 +678,7 @@ pub what-tally-does : (bs : List ℕ) (lent : Storage) (out left : List ℕ) (r 
 what-tally-does bs lent out left r tags policies counts a o s = (
   λ h. let w = tally-fits bs lent out h in (a ∙ w .0, o ∙ w .1),
   λ h. let w = tally-short bs lent out h in (a ∙ w .0, o ∙ w .1),
-  λ h. s ∙ left-of-run bs lent h,
+  λ h. s ∙ left-of-replay bs lent h,
 )
 
 -- the program prints the text: what its one function leaves at the start of its buffer, up to the length that it answers (tally/src/main.rt), is `printedOf`, the

@@ -23,14 +23,14 @@ use Rattle.eventlog.specs.declared.Event.{Event as LogEvent}
 use Rattle.replay.specs.declared.Ending.{Ending}
 use Rattle.replay.specs.declared.Ending.the-variants.{Complete, Truncated, Overlong, UnknownKind, NoSuchContainer as EndNoSuchContainer, SelfFlow as EndSelfFlow, StaleNumber as EndStaleNumber, TableFull as EndTableFull, NotEnabled as EndNotEnabled, BadSize as EndBadSize}
 use Rattle.replay.specs.declared.Replayed.{Replayed}
-use Rattle.replay.specs.Replay.{Run, callOf, containersIn, replayOf}
-use Rattle.replay.specs.Replies.{endingOf, runBy}
+use Rattle.replay.specs.Replay.{Replay, callOf, containersIn, replayOf}
+use Rattle.replay.specs.Replies.{endingOf, replayBy}
 use Rattle.replay.specs.Laws.{replay-does, replay-starts}
 use Rattle.replay.specs.Joins.{doneOf, replay-done}
-use Rattle.replay.specs.Numbers.{run-refusal}
+use Rattle.replay.specs.Numbers.{replay-refusal}
 use Rattle.report.specs.declared.Tallied.{Tallied}
 use Rattle.report.specs.Text.{leftOf}
-use Rattle.report.specs.Laws.{left-of-run}
+use Rattle.report.specs.Laws.{left-of-replay}
 use Rattle.outcome.specs.Outcome.{Outcome, noHeader, startOf, gainOf, enableOf, disableOf, addOf, Call, ask, add, outcomeOf, after}
 use Rattle.outcome.specs.Refusals.{start-refused, call-refused, call-unaccepted}
 use Rattle.outcome.specs.Table.{StartAnswers, start-answers, EnableAnswers, enable-answers, DisableAnswers, disable-answers, AddAnswers, add-answers, bad-size, invalid-state, no-such-from, no-such-to, self-flow, stale-number, table-full, not-enabled, no-such-container, unknown-tag, policy-full, accepted}
@@ -158,8 +158,8 @@ pub data Called (n : ℕ) (lent : Storage) : List Call → State → Type 0 wher
   begun : (r : Answered) (tags policies counts : List ℕ) → leftBy r tags policies counts ≡ startOf n lent → answerOf (r .reply) .refusal ≡ 0
       → Called n lent [] (leftBy r tags policies counts .state)
   replayed : (bs : List ℕ) (are : IsBytes bs) (accepts : containersIn bs lent .refusal ≡ 0) → headAt bs .value ≡ n
-      → (r : Replayed) (tags policies counts : List ℕ) → runBy r tags policies counts ≡ replayOf bs lent
-      → Called n lent (map callOf (doneOf bs)) (runBy r tags policies counts .state)
+      → (r : Replayed) (tags policies counts : List ℕ) → replayBy r tags policies counts ≡ replayOf bs lent
+      → Called n lent (map callOf (doneOf bs)) (replayBy r tags policies counts .state)
   tallied : (bs : List ℕ) (are : IsBytes bs) (accepts : containersIn bs lent .refusal ≡ 0) → headAt bs .value ≡ n → length bs ≤ 16384
       → (r : Tallied) (tags policies counts : List ℕ) → stateOf (r .header) tags policies counts (r .flows) ≡ leftOf bs lent
       → Called n lent (map callOf (doneOf bs)) (stateOf (r .header) tags policies counts (r .flows))
@@ -188,9 +188,9 @@ pub called-is : {n : ℕ} {lent : Storage} {cs : List Call} {s : State} → Call
 unfolding after
 called-is (begun r tags policies counts e a) = (ap (λ (o : Outcome). o .answer .refusal) (sym e) ∙ a, ap (λ (o : Outcome). o .state) e)
 called-is {n} {lent} (replayed bs are accepts e r tags policies counts q) =
-    let w = replayed-is bs lent are accepts e in (w .0, ap (λ (x : Run). x .state) q ∙ w .1)
+    let w = replayed-is bs lent are accepts e in (w .0, ap (λ (x : Replay). x .state) q ∙ w .1)
 called-is {n} {lent} (tallied bs are accepts e short r tags policies counts q) =
-    let w = replayed-is bs lent are accepts e in (w .0, q ∙ left-of-run bs lent short ∙ w .1)
+    let w = replayed-is bs lent are accepts e in (w .0, q ∙ left-of-replay bs lent short ∙ w .1)
 called-is {n} {lent} (called {cs} {s} x c r tags policies counts e) =
     let w = called-is x in
     (w .0, ap (λ (o : Outcome). o .state) e ∙ ap (λ (t : State). outcomeOf t c .state) (w .1) ∙ sym (after-last cs (startOf n lent .state) c))
@@ -260,10 +260,10 @@ ending-of (suc (suc (suc (suc (suc (suc (suc (suc (suc (suc k)))))))))) l = absu
 
 replay-left : (bs : List ℕ) (lent : Storage) → IsBytes bs
     → (r : Replayed)
-    × (runBy r (replayOf bs lent .state .storage .tags) (replayOf bs lent .state .storage .policies) (replayOf bs lent .state .storage .policyCounts) ≡ replayOf bs lent)
+    × (replayBy r (replayOf bs lent .state .storage .tags) (replayOf bs lent .state .storage .policies) (replayOf bs lent .state .storage .policyCounts) ≡ replayOf bs lent)
 replay-left bs lent are =
     let x = replayOf bs lent in
-    let e = ending-of (x .refusal) (run-refusal bs lent are) in (
+    let e = ending-of (x .refusal) (replay-refusal bs lent are) in (
       record { ending = e .0; byte = x .byte; events = x .events; gain = x .gain; header = x .state .header; flows = x .state .storage .flows },
       λ i. record { refusal = e .1 i; byte = x .byte; events = x .events; gain = x .gain; state = x .state },
     )

@@ -19,8 +19,8 @@ use Rattle.outcome.specs.Outcome.{decided, startOrder, started, startOf, enable
 use Rattle.question.specs.Question.{questionOrder, asked as askedOf, anyOf, policiesOf, isLegal, legalOf}
 use Rattle.ranking.specs.Ranking.{comesBefore, ranksBefore, inserted, rankedBy, rankingOf}
 use Rattle.decimal.specs.Decimal.{digits, decimalOf}
-use Rattle.replay.specs.Replay.{runEvents, runFrom, containersAt, begun, replayOf}
-use Rattle.report.specs.Text.{those, spaced, lineOf, linesOf, eventsLine, refusedLine, lastLine, reportOf, runText, textOf}
+use Rattle.replay.specs.Replay.{replayEvents, replayFrom, containersAt, begun, replayOf}
+use Rattle.report.specs.Text.{those, spaced, lineOf, linesOf, eventsLine, refusedLine, lastLine, reportOf, replayText, textOf}
 
 -- a row, with what must come of it
 pub data Sample : Type 0 where
@@ -145,5 +145,5 @@ samples =
 
 -- every row is what the definitions give
 pub samples-hold : map computed samples ≡ samples
-unfolding samples computed answers after those lent setOf adds example chain formOf decodeAt eventOf edgesOf without keep isEnabled tabulate matrix cell isEdge reachVia hasW bitAt emptySet singleOf unionOf subsetOf exceedsOf sizeOf countBelow allBelow anyBelow badSize setAt withSets flowsOf withFlows allOf risingFrom inLimits countsInLimits numbersRise endsProper tagsKnown ownTags setsCarried unusedZero validOf putSet decided startOrder started startOf enableOrder enableLater unionOver propagated gainOf changed enabling enableOf disableOrder disableLater disabling disableOf addLater addOrder adding addOf outcomeOf questionOrder askedOf anyOf policiesOf isLegal legalOf comesBefore ranksBefore inserted rankedBy rankingOf decimalOf runEvents runFrom containersAt begun replayOf spaced lineOf linesOf eventsLine refusedLine lastLine reportOf runText textOf groups judged continued valueOf eventsWithin recordAt fieldsAt formsOf digits
+unfolding samples computed answers after those lent setOf adds example chain formOf decodeAt eventOf edgesOf without keep isEnabled tabulate matrix cell isEdge reachVia hasW bitAt emptySet singleOf unionOf subsetOf exceedsOf sizeOf countBelow allBelow anyBelow badSize setAt withSets flowsOf withFlows allOf risingFrom inLimits countsInLimits numbersRise endsProper tagsKnown ownTags setsCarried unusedZero validOf putSet decided startOrder started startOf enableOrder enableLater unionOver propagated gainOf changed enabling enableOf disableOrder disableLater disabling disableOf addLater addOrder adding addOf outcomeOf questionOrder askedOf anyOf policiesOf isLegal legalOf comesBefore ranksBefore inserted rankedBy rankingOf decimalOf replayEvents replayFrom containersAt begun replayOf spaced lineOf linesOf eventsLine refusedLine lastLine reportOf replayText textOf groups judged continued valueOf eventsWithin recordAt fieldsAt formsOf digits
 samples-hold = refl

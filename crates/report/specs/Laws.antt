@@ -31,13 +31,13 @@ use Rattle.outcome.specs.Outcome.{noHeader}
 use Rattle.ranking.specs.Ranking.{rankingOf, rankedBy}
 use Rattle.ranking.specs.Laws.{ranking-length}
 use Rattle.replay.specs.declared.Replayed.{Replayed}
-use Rattle.replay.specs.Replay.{Run, replayOf, containersIn}
-use Rattle.replay.specs.Replies.{runBy, endingOf}
+use Rattle.replay.specs.Replay.{Replay, replayOf, containersIn}
+use Rattle.replay.specs.Replies.{replayBy, endingOf}
 use Rattle.replay.specs.Laws.{replay-not-begun, replay-containers, replay-events}
 use Rattle.report.specs.Words.{spacedWords, lineWith, line-words, events-line-words, refused-line-words}
-use Rattle.report.specs.Text.{eventsWord, gainWord, refusedWord, atWord, space, newline, those, tagsRising, spaced, lineOf, linesOf, eventsLine, refusedLine, lastLine, reportOf, runText, textOf, leftOf, tallyOf}
+use Rattle.report.specs.Text.{eventsWord, gainWord, refusedWord, atWord, space, newline, those, tagsRising, spaced, lineOf, linesOf, eventsLine, refusedLine, lastLine, reportOf, replayText, textOf, leftOf, tallyOf}
 use Rattle.report.specs.Pieces.{those-in, those-out, spaced-one, lines-length, ranking-below}
-use Rattle.replay.specs.Numbers.{run-room, run-gain, run-refusal, run-byte}
+use Rattle.replay.specs.Numbers.{replay-room, replay-gain, replay-refusal, replay-byte}
 
 -- THE WHOLE TEXT
 
@@ -73,48 +73,48 @@ module _ (bs : List ℕ) (lent : Storage) where
 
   module _ (short : length bs ≤ 16384) where
     -- any other input is run: the text is the run's
-    pub text-of-run : textOf bs lent ≡ runText (replayOf bs lent)
+    pub text-of-replay : textOf bs lent ≡ replayText (replayOf bs lent)
     unfolding textOf
-    text-of-run = rw (le-ltb 16384 (length bs) short) refl
+    text-of-replay = rw (le-ltb 16384 (length bs) short) refl
 
     -- and so is the tracker that is left
-    pub left-of-run : leftOf bs lent ≡ replayOf bs lent .state
+    pub left-of-replay : leftOf bs lent ≡ replayOf bs lent .state
     unfolding leftOf
-    left-of-run = rw (le-ltb 16384 (length bs) short) refl
+    left-of-replay = rw (le-ltb 16384 (length bs) short) refl
 
     -- 'if n can't be used only that line stands, with byte 0'
     pub text-of-unusable-n : (k : ℕ) → containersIn bs lent .refusal ≡ suc k → textOf bs lent ≡ refusedLine (suc k) 0
-    unfolding runText
-    text-of-unusable-n k e = text-of-run ∙ ap runText (replay-not-begun bs lent k e) ∙ no-container (lent .tags) (suc k) 0 0 0 ∙ last-refused k 0 0 0
+    unfolding replayText
+    text-of-unusable-n k e = text-of-replay ∙ ap replayText (replay-not-begun bs lent k e) ∙ no-container (lent .tags) (suc k) 0 0 0 ∙ last-refused k 0 0 0
 
     module _ (begins : containersIn bs lent .refusal ≡ 0) where
       -- of a run that begins: the lines of the containers, and the last line
       lines-and-last : let r = replayOf bs lent in textOf bs lent ≡ containerLines bs lent ++ lastLine (r .refusal) (r .byte) (r .events) (r .gain)
-      unfolding runText reportOf
+      unfolding replayText reportOf
       lines-and-last =
-          let r : Run = replayOf bs lent in
-          text-of-run
+          let r : Replay = replayOf bs lent in
+          text-of-replay
           ∙ ap (λ (n : ℕ). linesOf (rankingOf n (r .state .storage .tags)) (r .state .storage .tags) ++ lastLine (r .refusal) (r .byte) (r .events) (r .gain))
           (replay-containers bs lent begins)
 
       -- of a run that is complete: the same lines, and the line of what was done
-      pub text-of-complete-run : let r = replayOf bs lent in r .refusal ≡ 0 → textOf bs lent ≡ containerLines bs lent ++ eventsLine (r .events) (r .gain)
-      text-of-complete-run e = rw (lines-and-last, e, last-done) refl
+      pub text-of-complete-replay : let r = replayOf bs lent in r .refusal ≡ 0 → textOf bs lent ≡ containerLines bs lent ++ eventsLine (r .events) (r .gain)
+      text-of-complete-replay e = rw (lines-and-last, e, last-done) refl
 
       -- of one that was refused: the same lines, and the line of the refusal
-      pub text-of-refused-run : (k : ℕ) → let r = replayOf bs lent in r .refusal ≡ suc k → textOf bs lent ≡ containerLines bs lent ++ refusedLine (suc k) (r .byte)
-      text-of-refused-run k e = rw (lines-and-last, e, last-refused) refl
+      pub text-of-refused-replay : (k : ℕ) → let r = replayOf bs lent in r .refusal ≡ suc k → textOf bs lent ≡ containerLines bs lent ++ refusedLine (suc k) (r .byte)
+      text-of-refused-replay k e = rw (lines-and-last, e, last-refused) refl
 
 -- what the code puts for an input that is not run
 pub long-report : (bs : List ℕ) (lent : Storage) (ws : List ℕ) → 16384 < length bs → reportOf 0 ws 10 16384 0 0 ≡ textOf bs lent
 long-report bs lent ws h = no-container ws 10 16384 0 0 ∙ last-refused 9 16384 0 0 ∙ sym (text-of-long-input bs lent h)
 
 -- and for a replay that gave back r
-pub run-report : (bs : List ℕ) (lent : Storage) (r : Replayed) (tags policies counts : List ℕ) → length bs ≤ 16384
-    → runBy r tags policies counts ≡ replayOf bs lent
+pub replay-report : (bs : List ℕ) (lent : Storage) (r : Replayed) (tags policies counts : List ℕ) → length bs ≤ 16384
+    → replayBy r tags policies counts ≡ replayOf bs lent
     → reportOf (r .header .containers) tags (endingOf (r .ending)) (r .byte) (r .events) (r .gain) ≡ textOf bs lent
-unfolding runText
-run-report bs lent r tags policies counts h e = ap runText e ∙ sym (text-of-run bs lent h)
+unfolding replayText
+replay-report bs lent r tags policies counts h e = ap replayText e ∙ sym (text-of-replay bs lent h)
 
 -- THE TAGS OF A SET
 
@@ -303,18 +303,18 @@ last-length (suc k) byte events gain hr hb he hg =
     rw (last-refused k byte events gain) (omega (arith, pair-length refusedWord (space ∷ atWord) (suc k) byte hr hb))
 
 -- the text of a run
-run-length : (bs : List ℕ) (lent : Storage) → IsBytes bs → length bs ≤ 16384 → length (runText (replayOf bs lent)) ≤ 264256
-unfolding runText reportOf
-run-length bs lent are h =
-    let r : Run = replayOf bs lent in
+replay-length : (bs : List ℕ) (lent : Storage) → IsBytes bs → length bs ≤ 16384 → length (replayText (replayOf bs lent)) ≤ 264256
+unfolding replayText reportOf
+replay-length bs lent are h =
+    let r : Replay = replayOf bs lent in
     let n : ℕ = r .state .header .containers in
     let ws : List ℕ = r .state .storage .tags in
-    let most : n ≤ 256 = run-room bs lent .0 in
+    let most : n ≤ 256 = replay-room bs lent .0 in
     let lines =
     lines-length (rankingOf n ws) ws (λ k l. let i : k < n = omega (arith, ranking-length n ws) in omega (arith, ranking-below n ws k i, most)) in
     let last =
-    last-length (r .refusal) (r .byte) (r .events) (r .gain) (omega (arith, run-refusal bs lent are)) (omega (arith, run-byte bs lent are))
-    (omega (arith, replay-events bs lent are)) (omega (arith, run-gain bs lent)) in
+    last-length (r .refusal) (r .byte) (r .events) (r .gain) (omega (arith, replay-refusal bs lent are)) (omega (arith, replay-byte bs lent are))
+    (omega (arith, replay-events bs lent are)) (omega (arith, replay-gain bs lent)) in
     simp length-append (omega (arith, lines, last, ranking-length n ws, most))
 
 -- THE WHOLE TEXT takes at most 264,256 bytes: 256 lines of 1,032, and the last
@@ -322,7 +322,7 @@ pub text-fits : (bs : List ℕ) (lent : Storage) → IsBytes bs → length (text
 text-fits bs lent are =
     by-cases (decLt 16384 (length bs))
     (λ l. rw (text-of-long-input bs lent l, ← last-refused 9 16384 0 0) (omega (arith, last-length 10 16384 0 0 (omega arith) (omega arith) (omega arith) (omega arith))))
-    (λ n. let h : length bs ≤ 16384 = omega arith in rw (text-of-run bs lent h) (run-length bs lent are h))
+    (λ n. let h : length bs ≤ 16384 = omega arith in rw (text-of-replay bs lent h) (replay-length bs lent are h))
 
 -- WHAT IS WRITTEN
 

@@ -11,7 +11,7 @@ use Rattle.tagset.specs.Set.{has, sizeOf}
 use Rattle.state.specs.State.{Storage, State, storageOf, setAt, noFlow}
 use Rattle.outcome.specs.Outcome.{noHeader}
 use Rattle.ranking.specs.Ranking.{rankingOf}
-use Rattle.replay.specs.Replay.{Run, replayOf}
+use Rattle.replay.specs.Replay.{Replay, replayOf}
 
 -- the words, the space between and the newline at the end of every line
 abbrev pub eventsWord : List ℕ
@@ -71,12 +71,12 @@ unfoldable pub reportOf : ℕ → List ℕ → ℕ → ℕ → ℕ → ℕ → L
 reportOf n ws refusal byte events gain = linesOf (rankingOf n ws) ws ++ lastLine refusal byte events gain
 
 -- the same of a run. 'If n can't be used only that line stands, with byte 0': the header is then of zeros, so there is no container
-unfoldable pub runText : Run → List ℕ
-runText r = reportOf (r .state .header .containers) (r .state .storage .tags) (r .refusal) (r .byte) (r .events) (r .gain)
+unfoldable pub replayText : Replay → List ℕ
+replayText r = reportOf (r .state .header .containers) (r .state .storage .tags) (r .refusal) (r .byte) (r .events) (r .gain)
 
 -- THE WHOLE TEXT of an input, run in this storage: 'longer input gives only `refused 10 at 16384`'
 unfoldable pub textOf : List ℕ → Storage → List ℕ
-textOf bs lent = cond (ltb 16384 (length bs)) (refusedLine 10 16384) (runText (replayOf bs lent))
+textOf bs lent = cond (ltb 16384 (length bs)) (refusedLine 10 16384) (replayText (replayOf bs lent))
 
 -- a new tracker's storage, as the program has it, and what the program prints of its input
 abbrev pub newStorage : Storage

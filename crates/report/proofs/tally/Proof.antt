@@ -8,11 +8,11 @@ use borrow.Author.Needs.{needs}
 use Rattle.leb128.specs.Answer.{Writing}
 use Rattle.leb128.specs.Number.{writeAt}
 use Rattle.state.specs.State.{Storage, storageOf, stateOf}
-use Rattle.replay.specs.Replay.{Run}
+use Rattle.replay.specs.Replay.{Replay}
 use Rattle.replay.specs.Replies.{endingOf}
 use Rattle.report.specs.Text.{reportOf, textOf, leftOf}
-use Rattle.replay.specs.Numbers.{run-room}
-use Rattle.report.specs.Laws.{left-of-long-input, left-of-run, long-report, run-report}
+use Rattle.replay.specs.Numbers.{replay-room}
+use Rattle.report.specs.Laws.{left-of-long-input, left-of-replay, long-report, replay-report}
 use Rattle.report.proofs.tally.Statement.{statement}
 use Rattle.report.proofs.tally.Tie as tie
 
@@ -65,8 +65,8 @@ module _ (c : tie.After-replay) where
   -- the ranking can be written
   room : (c .replay .result .header .containers ≤ 256) × (4 * c .replay .result .header .containers ≤ length tags)
   room =
-      subst (λ (r : Run). (r .state .header .containers ≤ 256) × (4 * r .state .header .containers ≤ length (r .state .storage .tags)))
-      (sym (c .replay .ensures)) (run-room (start .args .bytes .now) (lent start))
+      subst (λ (r : Replay). (r .state .header .containers ≤ 256) × (4 * r .state .header .containers ≤ length (r .state .storage .tags)))
+      (sym (c .replay .ensures)) (replay-room (start .args .bytes .now) (lent start))
 
   -- it is not too long
   short : length (start .args .bytes .now) ≤ 16384
@@ -78,12 +78,12 @@ module _ (c : tie.After-replay) where
   text e =
       let r = c .replay .result in
       ap (λ (j : ℕ). reportOf (r .header .containers) tags j (r .byte) (r .events) (r .gain)) e
-      ∙ run-report (start .args .bytes .now) (lent start) r tags (c .replay .last .1 .1 .0) (c .replay .last .1 .1 .1 .0) short (c .replay .ensures)
+      ∙ replay-report (start .args .bytes .now) (lent start) r tags (c .replay .last .1 .1 .0) (c .replay .last .1 .1 .1 .0) short (c .replay .ensures)
 
   -- and what is left is the run's state
   left : stateOf (c .replay .result .header) tags (c .replay .last .1 .1 .0) (c .replay .last .1 .1 .1 .0) (c .replay .result .flows)
       ≡ leftOf (start .args .bytes .now) (lent start)
-  left = ap (λ (r : Run). r .state) (c .replay .ensures) ∙ sym (left-of-run (start .args .bytes .now) (lent start) short)
+  left = ap (λ (r : Replay). r .state) (c .replay .ensures) ∙ sym (left-of-replay (start .args .bytes .now) (lent start) short)
 
 write-report-requires-2 : tie.Need-write-report-requires-2
 write-report-requires-2 c κs = room (c .before .before .before .before .before .before .before .before .before .before .before)
