@@ -81,18 +81,19 @@ use Rattle.report.specs.Words.{lineWith, line-words, events-line-words, refused
 use Rattle.report.specs.Laws.{tags-members, tags-rising, tags-count, IsLine, line-ends, events-line-ends, refused-line-ends, text-of-long-input, text-of-unusable-n, text-of-complete-replay, text-of-refused-replay, left-of-replay, left-of-long-input, tally-short, tally-fits, tally-suffices}
 use Rattle.claims.specs.Permission.{takes, givenTo, SameSets, takes-exactly-if, list-follows, policies-are-those-given, questions-are-answered, others-are-no-container, rank-is-answered, legal-exactly-if-given, same-set-twice-takes-two-places, a-fifth-is-not-taken}
 
--- THE DEFINITIONS: model/specs/Model.antt (containers, flows, executions; no word of a tracker) and Reach.antt; state/specs/State.antt and Valid.antt;
--- outcome/specs/Outcome.antt; question/specs/Question.antt; ranking/specs/Ranking.antt; leb128/specs/Number.antt and Answer.antt; eventlog/specs/Log.antt;
--- replay/specs/Replay.antt; decimal/specs/Decimal.antt; report/specs/Text.antt; with tagset/specs/Set.antt and refusal/specs/Order.antt (`firstOf`, IsFirst). For the running calls: Replies.antt of tracker,
--- question, ranking and replay (what the contracts cite), tracker/specs/Unjudged.antt, flowtable/specs/FlowTable.antt, propagation/specs/Pass.antt,
--- tagstore/specs/Store.antt.
+-- THE DEFINITIONS: model/specs/Model.antt (containers, flows, executions; no word of a tracker) and Reach.antt; state/specs/State.antt and
+-- Valid.antt; outcome/specs/Outcome.antt; question/specs/Question.antt; ranking/specs/Ranking.antt; leb128/specs/Number.antt and Answer.antt;
+-- eventlog/specs/Log.antt; replay/specs/Replay.antt; decimal/specs/Decimal.antt; report/specs/Text.antt; with tagset/specs/Set.antt and
+-- refusal/specs/Order.antt (`firstOf`, IsFirst). For the running calls: Replies.antt of tracker, question, ranking and replay (what the contracts
+-- cite), tracker/specs/Unjudged.antt, flowtable/specs/FlowTable.antt, propagation/specs/Pass.antt, tagstore/specs/Store.antt.
 -- WORDS OF THE CLAIMS: IsSized, ProperEnds, Rising, IsValid, Usable (state/specs/IsValid.antt); Fit64 (state/specs/Layout.antt); totalOf
--- (tagstore/specs/Store.antt); StartAnswers, Enables, EnableAnswers, DisableAnswers, Adds, AddAnswers (outcome/specs/Table.antt); Sentence, IsStarted,
--- FlowsChanged (Steps.antt); PolicyAdded (Policies.antt); SameBeyond (Effects.antt); Follows (Follows.antt); QuestionAnswers (question/specs/Laws.antt);
--- RankAnswers (ranking/specs/Laws.antt); IsTruncated, IsOverlong (leb128/specs/Refusals.antt); IsPart (Part.antt);
--- SomeField, IsUnknown (eventlog/specs/Refusals.antt); IsEvent, IsRecord, IsLog (Laws.antt, LogLaws.antt); ContainersAnswers, AllAccepted, gainsOf, Completes, Stops,
--- Replays (replay/specs/Laws.antt); joining, doneOf (Joins.antt); lineWith, IsLine (report/specs/Words.antt, Laws.antt); takes, givenTo, SameSets (Permission.antt); StartDoes, EventDoes, EnableDoes, DisableDoes, AddDoes,
--- Called (Running.antt); Standing, Accepted, Occurs, MayEnable, Within (model/specs/Standing.antt, Histories.antt, Closure.antt).
+-- (tagstore/specs/Store.antt); StartAnswers, Enables, EnableAnswers, DisableAnswers, Adds, AddAnswers (outcome/specs/Table.antt); Sentence,
+-- IsStarted, FlowsChanged (Steps.antt); PolicyAdded (Policies.antt); SameBeyond (Effects.antt); Follows (Follows.antt); QuestionAnswers
+-- (question/specs/Laws.antt); RankAnswers (ranking/specs/Laws.antt); IsTruncated, IsOverlong (leb128/specs/Refusals.antt); IsPart (Part.antt);
+-- SomeField, IsUnknown (eventlog/specs/Refusals.antt); IsEvent, IsRecord, IsLog (Laws.antt, LogLaws.antt); ContainersAnswers, AllAccepted, gainsOf,
+-- Completes, Stops, Replays (replay/specs/Laws.antt); joining, doneOf (Joins.antt); lineWith, IsLine (report/specs/Words.antt, Laws.antt); takes,
+-- givenTo, SameSets (Permission.antt); StartDoes, EventDoes, EnableDoes, DisableDoes, AddDoes, Called (Running.antt); Standing, Accepted, Occurs,
+-- MayEnable, Within (model/specs/Standing.antt, Histories.antt, Closure.antt).
 
 -- DEMAND 1: the work, or the refusal that comes first in the paper's order; a refused event changes nothing
 

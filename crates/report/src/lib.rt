@@ -17,6 +17,53 @@ ghost use Rattle.replay.specs.Replies.{endingOf};
 ghost use Rattle.report.specs.Text.{space, newline, spaced, tagsRising, lineOf, linesOf, lastLine, reportOf, leftOf, tallyOf};
 ghost use Rattle.report.specs.Put.{Put};
 
+// What a run of `tally` gives back: the length of its text or that the output is too short, the header and the flow table.
+pub struct Tallied {
+    pub reply: Encoded,
+    pub header: Header,
+    pub flows: [Flow; 512],
+}
+
+// Runs an input in this storage and writes its text at the start of the output, or no byte where it does not fit. Input above 16,384 bytes is not run.
+pub fn tally(
+    bytes: &[u8],
+    tags: &mut [u64],
+    policies: &mut [u64],
+    counts: &mut [u8],
+    flows: [Flow; 512],
+    out: &mut [u8],
+) -> Tallied
+    ensures answer { λ r. ⌜ writingOf (r .reply) ≡ tallyOf (now (bytes .entry)) (storageOf (now (tags .entry)) (now (policies .entry)) (now (counts .entry)) flows) (now (out .entry)) .answer ⌝ }
+    ensures output { λ r. ⌜ now (out .exit) ≡ tallyOf (now (bytes .entry)) (storageOf (now (tags .entry)) (now (policies .entry)) (now (counts .entry)) flows) (now (out .entry)) .output ⌝ }
+    ensures state { λ r. ⌜ stateOf (r .header) (now (tags .exit)) (now (policies .exit)) (now (counts .exit)) (r .flows) ≡ leftOf (now (bytes .entry)) (storageOf (now (tags .entry)) (now (policies .entry)) (now (counts .entry)) flows) ⌝ }
+{
+    if 16384 < bytes.len() {
+        let none = Header {
+            containers: 0,
+            count: 0,
+            greatest: 0,
+        };
+        let reply = write_report(out, tags, 0, 10, 16384, 0, 0);
+        return Tallied {
+            reply: reply,
+            header: none,
+            flows: flows,
+        };
+    }
+    let run = replay::replay(bytes, tags, policies, counts, flows);
+    let header = run.header;
+    let after = run.flows;
+    let ending = run.ending;
+    let number = number_of(ending);
+    let n = header.containers;
+    let reply = write_report(out, tags, n, number, run.byte, run.events, run.gain);
+    Tallied {
+        reply: reply,
+        header: header,
+        flows: after,
+    }
+}
+
 // Puts a byte at `at`, where there is a place, and answers the position after it.
 fn put_byte(out: &mut [u8], at: usize, b: u8) -> usize
     requires { ⌜ at ≤ 4000000 ⌝ }
@@ -184,52 +231,5 @@ fn number_of(ending: Ending) -> u32
         Ending::TableFull => 7,
         Ending::NotEnabled => 8,
         Ending::BadSize => 9,
-    }
-}
-
-// What a run of `tally` gives back: the length of its text or that the output is too short, the header and the flow table.
-pub struct Tallied {
-    pub reply: Encoded,
-    pub header: Header,
-    pub flows: [Flow; 512],
-}
-
-// Runs an input in this storage and writes its text at the start of the output, or no byte where it does not fit. Input above 16,384 bytes is not run.
-pub fn tally(
-    bytes: &[u8],
-    tags: &mut [u64],
-    policies: &mut [u64],
-    counts: &mut [u8],
-    flows: [Flow; 512],
-    out: &mut [u8],
-) -> Tallied
-    ensures answer { λ r. ⌜ writingOf (r .reply) ≡ tallyOf (now (bytes .entry)) (storageOf (now (tags .entry)) (now (policies .entry)) (now (counts .entry)) flows) (now (out .entry)) .answer ⌝ }
-    ensures output { λ r. ⌜ now (out .exit) ≡ tallyOf (now (bytes .entry)) (storageOf (now (tags .entry)) (now (policies .entry)) (now (counts .entry)) flows) (now (out .entry)) .output ⌝ }
-    ensures state { λ r. ⌜ stateOf (r .header) (now (tags .exit)) (now (policies .exit)) (now (counts .exit)) (r .flows) ≡ leftOf (now (bytes .entry)) (storageOf (now (tags .entry)) (now (policies .entry)) (now (counts .entry)) flows) ⌝ }
-{
-    if 16384 < bytes.len() {
-        let none = Header {
-            containers: 0,
-            count: 0,
-            greatest: 0,
-        };
-        let reply = write_report(out, tags, 0, 10, 16384, 0, 0);
-        return Tallied {
-            reply: reply,
-            header: none,
-            flows: flows,
-        };
-    }
-    let run = replay::replay(bytes, tags, policies, counts, flows);
-    let header = run.header;
-    let after = run.flows;
-    let ending = run.ending;
-    let number = number_of(ending);
-    let n = header.containers;
-    let reply = write_report(out, tags, n, number, run.byte, run.events, run.gain);
-    Tallied {
-        reply: reply,
-        header: header,
-        flows: after,
     }
 }
