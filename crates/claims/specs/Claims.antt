@@ -7,6 +7,7 @@ use mathlib.Core.Logic.{_⊎_, _↔_, _≢_}
 use mathlib.Mathlib.Logic.Relation.{ReflTransGenᴰ}
 use Prim.Native.Nat.{ℕ, suc, _+_, _*_, _/_, _%_, _^_, _≤_, _<_}
 use native.Mathlib.Omega.{arith}
+use lib.Count.{ones}
 use lib.Dec.{eqb}
 use lib.ListN.{length, getD, take, drop}
 use Rattle.truth.specs.Truth.{iff}
@@ -33,7 +34,8 @@ use Rattle.model.specs.Standing.{Standing, standing, without-part, enabled-flow
 use Rattle.model.specs.Histories.{accepted-last, joins-added, not-joins-same, flows-empty, flows-one, flows-next, accepted-each, accepted-inside, Accepted, Occurs, MayEnable, enable-joins, disable-joins, numbers-rise}
 use Rattle.model.specs.Propositions.{event-changes-nothing, exec-adds, exact-at, proposition-1, proposition-2}
 use Rattle.tagset.specs.declared.TagSet.{TagSet}
-use Rattle.tagset.specs.Set.{has, bitAt, emptySet, sizeOf}
+use Rattle.tagset.specs.Set.{has, bitAt, emptySet, sizeOf, IsWords}
+use Rattle.tagset.specs.Laws.{size-words}
 use Rattle.state.specs.State.{Storage, State, stateOf, badSize, setAt, policyCount, policyAt, flowsOf}
 use Rattle.state.specs.Valid.{validOf}
 use Rattle.state.specs.Layout.{Fit64, set-bit, flows-first, flows-count}
@@ -46,7 +48,7 @@ use Rattle.tracker.specs.declared.Answered.{Answered}
 use Rattle.tracker.specs.Replies.{answerOf, answer-injective, leftBy}
 use Rattle.tracker.specs.Unjudged.{applyEnableOf, applyDisableOf}
 use Rattle.tracker.specs.UnjudgedLaws.{passes-propagate, passes-gain, apply-enable-refusal, apply-enable-refused, apply-disable-refusal, apply-disable-refused, apply-enable, apply-disable}
-use Rattle.claims.specs.Running.{StartDoes, start-does, EnableDoes, enable-does, DisableDoes, disable-does, AddDoes, add-does, Called, called-is, called-of, called-after-replay}
+use Rattle.claims.specs.Running.{StartDoes, start-does, EnableDoes, enable-does, DisableDoes, disable-does, AddDoes, add-does, Called, called-is, called-of, called-after-replay, called-after-tally}
 use Rattle.outcome.specs.Outcome.{Outcome, startOrder, enableLater, disableLater, startOf, propagated, gainOf, enableOf, disableOf, addOf, Call, ask, add, orderOf, outcomeOf, eventsOf, after, configurationOf}
 use Rattle.outcome.specs.Refusals.{start-refusal, start-refused, call-refusal, call-refused}
 use Rattle.outcome.specs.Table.{StartAnswers, start-answers, EnableAnswers, enable-answers, DisableAnswers, disable-answers, AddAnswers, add-answers}
@@ -70,7 +72,7 @@ use Rattle.replay.specs.declared.Ending.{Ending}
 use Rattle.replay.specs.declared.Replayed.{Replayed}
 use Rattle.replay.specs.Replay.{Replay, eventIn, callOf, containersIn, replayOf}
 use Rattle.replay.specs.Replies.{endingOf, replayBy, containersOf, ending-injective, containers-injective}
-use Rattle.replay.specs.Laws.{AllAccepted, gainsOf, ContainersAnswers, containers-answers, replay-not-begun, Replays, replay-does, replay-log, replay-log-refused, replay-usable, replay-containers, replay-beyond}
+use Rattle.replay.specs.Laws.{AllAccepted, gainsOf, ContainersAnswers, containers-answers, begun-head, replay-not-begun, replay-starts, Replays, replay-does, replay-log, replay-log-refused, replay-usable, replay-containers, replay-beyond}
 use Rattle.replay.specs.Joins.{joining, doneOf, replay-done}
 use Rattle.replay.specs.Numbers.{begins-exactly-if}
 use Rattle.decimal.specs.Decimal.{decimalOf, numberOf}
@@ -78,21 +80,22 @@ use Rattle.decimal.specs.Laws.{decimal-last, decimal-value, decimal-digit, deci
 use Rattle.report.specs.Text.{eventsWord, gainWord, refusedWord, atWord, tagsRising, lineOf, linesOf, eventsLine, refusedLine, textOf, newStorage, printedOf, leftOf, tallyOf}
 use Rattle.report.specs.declared.Tallied.{Tallied}
 use Rattle.report.specs.Words.{lineWith, line-words, events-line-words, refused-line-words, no-lines, line-by-line}
-use Rattle.report.specs.Laws.{tags-members, tags-rising, tags-count, IsLine, line-ends, events-line-ends, refused-line-ends, text-of-long-input, text-of-unusable-n, text-of-complete-replay, text-of-refused-replay, left-of-replay, left-of-long-input, tally-short, tally-fits, tally-suffices}
-use Rattle.claims.specs.Permission.{takes, givenTo, SameSets, takes-exactly-if, list-follows, policies-are-those-given, questions-are-answered, others-are-no-container, rank-is-answered, legal-exactly-if-given, same-set-twice-takes-two-places, a-fifth-is-not-taken}
+use Rattle.report.specs.Laws.{tags-members, tags-rising, tags-count, IsLine, line-ends, events-line-ends, refused-line-ends, text-of-long-input, text-of-unusable-n, text-of-complete-replay, text-of-refused-replay, left-of-replay, left-of-long-input, new-storage-sized, tally-short, tally-fits, tally-suffices}
+use Rattle.claims.specs.Permission.{takes, givenTo, SameSets, Known, takes-exactly-if, list-follows, policies-are-those-given, accepted-exactly-if-taken, questions-are-answered, others-are-no-container, rank-is-answered, legal-exactly-if-given, same-set-twice-takes-two-places, a-fifth-is-not-taken}
 
 -- THE DEFINITIONS: model/specs/Model.antt (containers, flows, executions; no word of a tracker) and Reach.antt; state/specs/State.antt and
 -- Valid.antt; outcome/specs/Outcome.antt; question/specs/Question.antt; ranking/specs/Ranking.antt; leb128/specs/Number.antt and Answer.antt;
--- eventlog/specs/Log.antt; replay/specs/Replay.antt; decimal/specs/Decimal.antt; report/specs/Text.antt; with tagset/specs/Set.antt and
--- refusal/specs/Order.antt (`firstOf`, IsFirst). For the running calls: Replies.antt of tracker, question, ranking and replay (what the contracts
--- cite), tracker/specs/Unjudged.antt, flowtable/specs/FlowTable.antt, propagation/specs/Pass.antt, tagstore/specs/Store.antt.
+-- eventlog/specs/Answer.antt and Log.antt; replay/specs/Replay.antt; decimal/specs/Decimal.antt; report/specs/Text.antt; with tagset/specs/Set.antt
+-- and refusal/specs/Order.antt (`firstOf`, IsFirst). For the running calls: Replies.antt of tracker, question, ranking and replay (what the contracts
+-- cite), tracker/specs/Unjudged.antt, validity/specs/Judge.antt, flowtable/specs/FlowTable.antt, propagation/specs/Pass.antt,
+-- tagstore/specs/Store.antt.
 -- WORDS OF THE CLAIMS: IsSized, ProperEnds, Rising, IsValid, Usable (state/specs/IsValid.antt); Fit64 (state/specs/Layout.antt); totalOf
 -- (tagstore/specs/Store.antt); StartAnswers, Enables, EnableAnswers, DisableAnswers, Adds, AddAnswers (outcome/specs/Table.antt); Sentence,
 -- IsStarted, FlowsChanged (Steps.antt); PolicyAdded (Policies.antt); SameBeyond (Effects.antt); Follows (Follows.antt); QuestionAnswers
 -- (question/specs/Laws.antt); RankAnswers (ranking/specs/Laws.antt); IsTruncated, IsOverlong (leb128/specs/Refusals.antt); IsPart (Part.antt);
--- SomeField, IsUnknown (eventlog/specs/Refusals.antt); IsEvent, IsRecord, IsLog (Laws.antt, LogLaws.antt); ContainersAnswers, AllAccepted, gainsOf,
+-- SomeField, IsUnknown (eventlog/specs/Refusals.antt); IsEvent, IsRecord, IsLog, complete (Laws.antt, LogLaws.antt), AreEvents (Records.antt); ContainersAnswers, AllAccepted, gainsOf,
 -- Completes, Stops, Replays (replay/specs/Laws.antt); joining, doneOf (Joins.antt); lineWith, IsLine (report/specs/Words.antt, Laws.antt); takes,
--- givenTo, SameSets (Permission.antt); StartDoes, EventDoes, EnableDoes, DisableDoes, AddDoes, Called (Running.antt); Standing, Accepted, Occurs,
+-- givenTo, SameSets, Known (Permission.antt); StartDoes, EventDoes, EnableDoes, DisableDoes, AddDoes, Called (Running.antt); Standing, Accepted, Occurs,
 -- MayEnable, Within (model/specs/Standing.antt, Histories.antt, Closure.antt).
 
 -- DEMAND 1: the work, or the refusal that comes first in the paper's order; a refused event changes nothing
@@ -141,6 +144,11 @@ pub tag-is-a-bit : (ws : List ℕ) (k t : ℕ) → t < 256 → has (setAt ws k) 
 unfolding bitAt
 tag-is-a-bit = set-bit
 
+-- 'the size of a tag set is the number of ones in its words'
+pub size-is-the-number-of-ones : (s : TagSet) → IsWords s
+    → sizeOf s ≡ ones (getD (s .words) 0 0) + ones (getD (s .words) 1 0) + ones (getD (s .words) 2 0) + ones (getD (s .words) 3 0)
+size-is-the-number-of-ones = size-words
+
 pub flow-is-a-record : (s : State) (i : ℕ) (d : Flow) → i < s .header .count → getD (flowsOf s) i d ≡ getD (s .storage .flows) i d
 flow-is-a-record = flows-first
 
@@ -156,7 +164,7 @@ pub refused-call-changes-nothing : (s : State) (c : Call) (k : ℕ) → outcomeO
     → (outcomeOf s c .state ≡ s) × (outcomeOf s c .answer .gain ≡ 0)
 refused-call-changes-nothing = call-refused
 
--- STORAGE PAST THE LENGTHS IN USE is never written, and no list becomes longer or shorter; words of 64 bits stay such
+-- STORAGE PAST THE LENGTHS IN USE is never written, and no list becomes longer or shorter; tag words of 64 bits stay such
 pub start-writes-nothing-beyond : (n : ℕ) (lent : Storage) → SameBeyond n (startOf n lent .state .storage) lent
 start-writes-nothing-beyond = start-beyond
 
@@ -299,6 +307,10 @@ module _ (n : ℕ) (lent : Storage) (begun : startOf n lent .answer .refusal ≡
     λ p. configuration-has tracker c t .0 (tracker-follows .sets c t .1 p) .1,
   )
 
+  -- ADDING IS ACCEPTED exactly if the container takes the set (`takes`, from n and the sets that the list gave it)
+  pub add-accepted-exactly-if-taken : (c : ℕ) (p : TagSet) → (outcomeOf tracker (add c p) .answer .refusal ≡ 0) ↔ (takes n c (givenTo n c [] calls) c p ≡ true)
+  add-accepted-exactly-if-taken = accepted-exactly-if-taken n lent begun calls
+
   -- PERMISSION. The policy sets that a container has are those that the list gave it (`givenTo`, from n and the calls' arguments alone), in the order of
   -- adding; and it may be sent exactly if one of them has every tag that Flows of the accepted history relates to it
   pub policy-sets-are-those-given : (c : ℕ) → c < n → SameSets (policiesOf tracker c) (givenTo n c [] calls)
@@ -400,11 +412,10 @@ pub a-set-is-taken-exactly-if : (n c : ℕ) (had : List TagSet) (d : ℕ) (p : T
     → (takes n c had d p ≡ true) ↔ ((d ≡ c) × (c < n) × ((t : ℕ) → has p t ≡ true → t < n) × (length had < 4))
 a-set-is-taken-exactly-if = takes-exactly-if
 
-pub the-same-set-twice-takes-two-places : (n c : ℕ) (p : TagSet) → c < n → ((t : ℕ) → has p t ≡ true → t < n) → givenTo n c [] (add c p ∷ add c p ∷ []) ≡ p ∷ p ∷ []
+pub the-same-set-twice-takes-two-places : (n c : ℕ) (p : TagSet) → c < n → Known n p → givenTo n c [] (add c p ∷ add c p ∷ []) ≡ p ∷ p ∷ []
 the-same-set-twice-takes-two-places = same-set-twice-takes-two-places
 
-pub a-fifth-set-is-not-taken : (n c : ℕ) (p q r s : TagSet) → c < n → ((t : ℕ) → has p t ≡ true → t < n) → ((t : ℕ) → has q t ≡ true → t < n)
-    → ((t : ℕ) → has r t ≡ true → t < n) → ((t : ℕ) → has s t ≡ true → t < n) → (calls : List Call)
+pub a-fifth-set-is-not-taken : (n c : ℕ) (p q r s : TagSet) → c < n → Known n p → Known n q → Known n r → Known n s → (calls : List Call)
     → givenTo n c [] (add c p ∷ add c q ∷ add c r ∷ add c s ∷ calls) ≡ p ∷ q ∷ r ∷ s ∷ []
 a-fifth-set-is-not-taken = a-fifth-is-not-taken
 
@@ -446,6 +457,10 @@ rank-sets-writes-the-ranking-or-nothing n ws out = (rank-into-done n ws out, ran
 -- DEMAND 1: n is read and judged first; if n or the storage is refused, byte and header are 0 and nothing is written
 pub n-answers-by-the-table : (bs : List ℕ) (lent : Storage) (k : ℕ) → (containersIn bs lent .refusal ≡ k) ↔ ContainersAnswers bs lent k
 n-answers-by-the-table = containers-answers
+
+-- where n is accepted, it and the position of the first record are those that are read
+pub an-accepted-n-is-the-one-read : (bs : List ℕ) (lent : Storage) → containersIn bs lent .refusal ≡ 0 → containersIn bs lent ≡ headAt bs
+an-accepted-n-is-the-one-read = begun-head
 
 pub a-refused-n-changes-nothing : (bs : List ℕ) (lent : Storage) (k : ℕ) → containersIn bs lent .refusal ≡ suc k
     → replayOf bs lent ≡ record { refusal = suc k; byte = 0; events = 0; gain = 0; state = record { header = record { containers = 0; count = 0; greatest = 0 }; storage = lent } }
@@ -580,6 +595,33 @@ pub the-buffer-of-tally-suffices : (bs : List ℕ) (lent : Storage) (out : List 
     → tallyOf bs lent out .answer ≡ wrote (length (textOf bs lent))
 the-buffer-of-tally-suffices = tally-suffices
 
+-- THE PROGRAM prints the text of its input in a new tracker's storage (`printedOf`, which the contract in tally/src/main.rt cites): all that is claimed of
+-- texts, with `newStorage` for the lent lists. That takes every n from 1 to 256, so the program answers 9 for n alone
+pub the-program-takes-every-n : (n : ℕ) → IsSized n newStorage ↔ ((1 ≤ n) × (n ≤ 256))
+the-program-takes-every-n = new-storage-sized
+
+pub the-program-refuses-n-by-the-table : (bs : List ℕ) (k : ℕ) → length bs ≤ 16384 → ContainersAnswers bs newStorage (suc k) → printedOf bs ≡ refusedLine (suc k) 0
+the-program-refuses-n-by-the-table bs k short a = text-of-unusable-n bs newStorage short k (containers-answers bs newStorage (suc k) .1 a)
+
+-- DEMAND 2, THE TEXT: the tags on the line of container c are those that Flows of the accepted history relates to c, and the history is that of the events
+-- done, found from the bytes alone; so is the number on the line of events
+pub the-tags-printed-are-flows : (bs : List ℕ) (lent : Storage) → IsBytes bs → containersIn bs lent .refusal ≡ 0 → (c t : ℕ) → c < headAt bs .value
+    → (t ∈ tagsRising (setAt (replayOf bs lent .state .storage .tags) c))
+    ↔ Flows (headAt bs .value) (accepted (headAt bs .value) (eventsOf (map callOf (doneOf bs)))) t c
+the-tags-printed-are-flows bs lent are b c t l =
+    let w = replay-does bs lent are b in
+    let n = headAt bs .value in
+    let same : replayOf bs lent .state ≡ after (startOf n lent .state) (map callOf (doneOf bs)) =
+    w .state ∙ ap (λ (es : List LogEvent). after (startOf n lent .state) (map callOf es)) (replay-done bs lent are b) in
+    let flows = sets-are-flows n lent (replay-starts bs lent b) (map callOf (doneOf bs)) c t l in
+    let tags = tags-members (setAt (replayOf bs lent .state .storage .tags) c) t in
+    let has-so : has (setAt (replayOf bs lent .state .storage .tags) c) t ≡ has (setAt (after (startOf n lent .state) (map callOf (doneOf bs)) .storage .tags) c) t =
+    ap (λ (s : State). has (setAt (s .storage .tags) c) t) same in
+    (λ m. flows .0 (sym has-so ∙ tags .0 m), λ f. tags .1 (has-so ∙ flows .1 f))
+
+pub the-events-printed-are-those-done : (bs : List ℕ) (lent : Storage) → IsBytes bs → containersIn bs lent .refusal ≡ 0 → replayOf bs lent .events ≡ length (doneOf bs)
+the-events-printed-are-those-done bs lent are b = replay-does bs lent are b .events ∙ ap length (replay-done bs lent are b)
+
 -- THE RUNNING CALLS (src/lib.rt of each crate). The contract of each is one equation: what the call gives back and leaves in the lent lists (`leftBy`) makes up the
 -- outcome of its definition, for every number and every content and length of storage. It is the hypothesis here; the reader compares it with the line
 -- `ensures` there. So what is claimed above of the definitions is true of the calls, one by one:
@@ -682,11 +724,6 @@ what-tally-does bs lent out left r tags policies counts a o s = (
   λ h. s ∙ left-of-replay bs lent h,
 )
 
--- the program prints the text: what its one function leaves at the start of its buffer, up to the length that it answers (tally/src/main.rt), is `printedOf`, the
--- text of the input in a new tracker
-pub the-program-prints-the-text : (bs : List ℕ) → printedOf bs ≡ textOf bs newStorage
-the-program-prints-the-text bs = refl
-
 -- PROPAGATION runs in passes. One pass gives each container what it had, and what the sources of its edges had when the pass began
 pub a-pass-reads-the-sets-found : (n : ℕ) (es : List (ℕ × ℕ)) (ws : List ℕ) → 4 * n ≤ length ws → (c t : ℕ) → c < n
     → (has (setAt (pass n es ws) c) t ≡ true)
@@ -731,6 +768,10 @@ pairs-counted-are-the-gain = passes-gain
 pub every-list-can-be-called : (n : ℕ) (lent : Storage) → startOf n lent .answer .refusal ≡ 0 → (calls : List Call) → (s : State) × Called n lent calls s
 every-list-can-be-called = called-of
 
+pub every-list-can-go-on-after-tally : (bs : List ℕ) (lent : Storage) → IsBytes bs → containersIn bs lent .refusal ≡ 0 → length bs ≤ 16384 → (reply : Encoded) (calls : List Call)
+    → (s : State) × Called (headAt bs .value) lent (map callOf (doneOf bs) ++ calls) s
+every-list-can-go-on-after-tally = called-after-tally
+
 pub every-list-can-go-on-after-a-replay : (bs : List ℕ) (lent : Storage) → IsBytes bs → containersIn bs lent .refusal ≡ 0 → (calls : List Call)
     → (s : State) × Called (headAt bs .value) lent (map callOf (doneOf bs) ++ calls) s
 every-list-can-go-on-after-a-replay = called-after-replay
@@ -772,8 +813,19 @@ module _ (n : ℕ) (lent : Storage) (calls : List Call) (s : State) (made : Call
   pub called-every-question-is-answered : (c : ℕ) → c < n → (tagsOf s c .refusal ≡ 0) × (sizeAsked s c .refusal ≡ 0) × (legalOf s c .refusal ≡ 0)
   called-every-question-is-answered = rw (sym same-state) (questions-are-answered n lent (called-is made .0) calls)
 
+  pub called-no-other-container-is-told : (c : ℕ) → n ≤ c → (tagsOf s c .refusal ≡ 4) × (sizeAsked s c .refusal ≡ 4) × (legalOf s c .refusal ≡ 4)
+  called-no-other-container-is-told = rw (sym same-state) (others-are-no-container n lent (called-is made .0) calls)
+
   pub called-the-ranking-is-written : (out : List ℕ) → n ≤ length out → rankOf s out .refusal ≡ 0
   called-the-ranking-is-written = rw (sym same-state) (rank-is-answered n lent (called-is made .0) calls)
+
+  -- the next policy set is accepted exactly if the container takes it
+  pub called-add-accepted-exactly-if-taken : (c : ℕ) (p : TagSet) (r : Answered) (tags policies counts : List ℕ) → leftBy r tags policies counts ≡ outcomeOf s (add c p)
+      → (answerOf (r .reply) .refusal ≡ 0) ↔ (takes n c (givenTo n c [] calls) c p ≡ true)
+  called-add-accepted-exactly-if-taken c p r tags policies counts q =
+      subst (λ (o : Outcome). (o .answer .refusal ≡ 0) ↔ (takes n c (givenTo n c [] calls) c p ≡ true)) (sym q)
+      (subst (λ (s : State). (outcomeOf s (add c p) .answer .refusal ≡ 0) ↔ (takes n c (givenTo n c [] calls) c p ≡ true)) same-state
+      (add-accepted-exactly-if-taken n lent (called-is made .0) calls c p))
 
   -- what `is_legal` then answers
   pub called-legal-exactly-if-flows-permit : (c : ℕ) → c < n → (r : Legal) → legalReply r ≡ legalOf s c

@@ -223,6 +223,31 @@ module _ (n : ℕ) (lent : Storage) (begun : startOf n lent .answer .refusal ≡
       let none : length (policiesOf (startOf n lent .state) c) ≡ 0 = policy-count (startOf n lent .state) c ∙ start-is-started n lent begun .no-policies c l in
       calls-given n c l calls [] (startOf n lent .state) (record { usable = w .usable; size = w .size; sets = (none, λ k t b. absurd (omega (arith, none, b))) })
 
+  -- A SET IS ACCEPTED exactly if the container takes it
+  pub accepted-exactly-if-taken : (c : ℕ) (p : TagSet) → (outcomeOf tracker (add c p) .answer .refusal ≡ 0) ↔ (takes n c (givenTo n c [] calls) c p ≡ true)
+  unfolding outcomeOf
+  accepted-exactly-if-taken c p = (
+    λ a.
+        let e = add-accepted tracker c p .0 a in
+        let l : c < n = omega (arith, e .container, list-follows .size) in
+        in-words .1 (refl, l, rw (sym (list-follows .size)) (e .known), omega (arith, e .room, long l)),
+    λ t.
+        let w = in-words .0 t in
+        add-accepted tracker c p .1
+        (record {
+          usable = list-follows .usable;
+          container = omega (arith, w .1, list-follows .size);
+          known = rw (list-follows .size) (w .2);
+          room = omega (arith, w .3, long (w .1));
+        }),
+  )
+    where
+      in-words : (takes n c (givenTo n c [] calls) c p ≡ true) ↔ ((c ≡ c) × (c < n) × Known n p × (length (givenTo n c [] calls) < 4))
+      in-words = takes-exactly-if n c (givenTo n c [] calls) c p
+
+      long : c < n → length (givenTo n c [] calls) ≡ policyCount tracker c
+      long l = sym (policies-are-those-given c l .0) ∙ policy-count tracker c
+
   -- EVERY QUESTION about one of the containers is answered
   pub questions-are-answered : (c : ℕ) → c < n → (tagsOf tracker c .refusal ≡ 0) × (sizeAsked tracker c .refusal ≡ 0) × (legalOf tracker c .refusal ≡ 0)
   questions-are-answered c l = all-answer tracker c 0 (answered (list-follows .usable) (omega (arith, l, list-follows .size)))

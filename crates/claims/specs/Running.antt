@@ -17,6 +17,7 @@ use Rattle.tracker.specs.declared.Answered.{Answered}
 use Rattle.tracker.specs.declared.Reply.{Reply}
 use Rattle.tracker.specs.declared.Reply.the-variants.{Accepted, NoSuchContainer, SelfFlow, StaleNumber, TableFull, NotEnabled, BadSize, PolicyFull, InvalidState}
 use Rattle.tracker.specs.Replies.{answerOf, givenBack, leftBy}
+use Rattle.leb128.specs.declared.Encoded.{Encoded}
 use Rattle.leb128.specs.Number.{IsBytes}
 use Rattle.eventlog.specs.Log.{headAt}
 use Rattle.eventlog.specs.declared.Event.{Event as LogEvent}
@@ -292,3 +293,12 @@ pub called-after-replay : (bs : List ℕ) (lent : Storage) → IsBytes bs → co
     → (s : State) × Called (headAt bs .value) lent (map callOf (doneOf bs) ++ cs) s
 called-after-replay bs lent are b cs =
     let w = replay-left bs lent are in called-on (headAt bs .value) lent (map callOf (doneOf bs)) _ (replayed bs are b refl (w .0) _ _ _ (w .1)) cs
+
+-- and from every `tally` whose n and storage are, whatever becomes of its text
+pub called-after-tally : (bs : List ℕ) (lent : Storage) → IsBytes bs → containersIn bs lent .refusal ≡ 0 → length bs ≤ 16384 → (reply : Encoded) (cs : List Call)
+    → (s : State) × Called (headAt bs .value) lent (map callOf (doneOf bs) ++ cs) s
+called-after-tally bs lent are b short reply cs =
+    let x = leftOf bs lent in
+    called-on (headAt bs .value) lent (map callOf (doneOf bs)) _
+    (tallied bs are b refl short (record { reply = reply; header = x .header; flows = x .storage .flows }) (x .storage .tags) (x .storage .policies) (x .storage .policyCounts) refl)
+    cs

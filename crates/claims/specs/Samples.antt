@@ -10,6 +10,7 @@ use Rattle.eventlog.specs.Answer.{eventOf}
 use Rattle.eventlog.specs.Log.{formsOf, fieldsAt, recordAt, eventsWithin}
 use Rattle.model.specs.Model.{Event, enable, disable, flow, edgesOf, without, keep, isEnabled}
 use Rattle.model.specs.Reach.{tabulate, matrix, cell, isEdge, reachVia}
+use Rattle.model.specs.Bench.{events as example}
 use Rattle.tagset.specs.declared.TagSet.{TagSet}
 use Rattle.tagset.specs.Set.{has, hasW, bitAt, emptySet, singleOf, unionOf, subsetOf, exceedsOf, sizeOf, countBelow, allBelow, anyBelow}
 use Rattle.state.specs.State.{Storage, State, badSize, setAt, withSets, flowsOf, withFlows}
@@ -20,7 +21,7 @@ use Rattle.question.specs.Question.{questionOrder, asked as askedOf, anyOf, pol
 use Rattle.ranking.specs.Ranking.{comesBefore, ranksBefore, inserted, rankedBy, rankingOf}
 use Rattle.decimal.specs.Decimal.{digits, decimalOf}
 use Rattle.replay.specs.Replay.{replayEvents, replayFrom, containersAt, begun, replayOf}
-use Rattle.report.specs.Text.{those, spaced, lineOf, linesOf, eventsLine, refusedLine, lastLine, reportOf, replayText, textOf}
+use Rattle.report.specs.Text.{those, spaced, lineOf, linesOf, eventsLine, refusedLine, lastLine, reportOf, replayText, textOf, printedOf}
 
 -- a row, with what must come of it
 pub data Sample : Type 0 where
@@ -32,7 +33,7 @@ pub data Sample : Type 0 where
   events : ℕ → List Event → List (ℕ × ℕ) → List (List ℕ) → Sample
   -- n and events; a container and the policy sets that it is given; each call's answer, the container's tags, and the permission's refusal and answer
   policies : ℕ → List Event → ℕ → List (List ℕ) → List (ℕ × ℕ) → List ℕ → ℕ × Bool → Sample
-  -- a log and its whole text
+  -- a log and the whole text that the program prints
   text : List ℕ → List ℕ → Sample
 
 -- lent storage that is longer than needed and full of other content
@@ -71,16 +72,11 @@ computed (policies n es c ps replies tags legal) =
     let calls = map ask es ++ adds c ps in
     let s = after begun calls in
     let asked = legalOf s c in policies n es c ps (answers begun calls) (those 0 256 (has (setAt (s .storage .tags) c))) (asked .refusal, asked .value)
-computed (text bs t) = text bs (textOf bs (lent 12))
+computed (text bs t) = text bs (printedOf bs)
 
 -- an accepted event with this gain
 abbrev gained : ℕ → ℕ × ℕ
 gained k = (0, k)
-
--- document 000's Example 1: src 0, se 1, p 2, r 3, d 4
-unfoldable pub example : List Event
-example =
-    enable (flow 1 2 3) ∷ enable (flow 2 0 1) ∷ disable 2 ∷ enable (flow 3 1 2) ∷ disable 1 ∷ disable 3 ∷ enable (flow 4 3 4) ∷ disable 4 ∷ []
 
 -- open 0 to 1 and 1 to 2: container 2 has {0, 1, 2}
 unfoldable pub chain : List Event
@@ -91,7 +87,7 @@ unfoldable pub samples : List Sample
 samples =
     -- n 3, no event: sets {0}, {1}, {2}
     events 3 [] [] ((0 ∷ []) ∷ (1 ∷ []) ∷ (2 ∷ []) ∷ [])
-    -- the example; gains 1, 1, 0, 4, 0, 0, 4, 0
+    -- the example, document 000's Example 1: src 0, se 1, p 2, r 3, d 4; gains 1, 1, 0, 4, 0, 0, 4, 0
     ∷ events 5 example
     (gained 1 ∷ gained 1 ∷ gained 0 ∷ gained 4 ∷ gained 0 ∷ gained 0 ∷ gained 4 ∷ gained 0 ∷ [])
     ((0 ∷ []) ∷ (0 ∷ 1 ∷ []) ∷ (0 ∷ 1 ∷ 2 ∷ []) ∷ (0 ∷ 1 ∷ 2 ∷ 3 ∷ []) ∷ (0 ∷ 1 ∷ 2 ∷ 3 ∷ 4 ∷ []) ∷ [])

@@ -51,10 +51,6 @@ pub fn remove(mut flows: [Flow; 512], count: u32, place: u32) -> [Flow; 512]
         flows[i] = flows[i + 1];
         i += 1;
     }
-    flows[i] = Flow {
-        number: 0,
-        from: 0,
-        to: 0,
-    };
+    flows[i] = Flow::NONE;
     flows
 }

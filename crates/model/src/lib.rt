@@ -5,3 +5,12 @@ pub struct Flow {
     pub from: u32,
     pub to: u32,
 }
+
+impl Flow {
+    // No flow: the record of a place that is not in use.
+    pub const NONE: Flow = Flow {
+        number: 0,
+        from: 0,
+        to: 0,
+    };
+}

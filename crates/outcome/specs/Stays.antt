@@ -1,4 +1,4 @@
--- Valid stays valid (document 01, 'Storage': a sound book): a call changes flows and tag sets alone, and keeps what a valid state says of these.
+-- Valid stays valid (document 01, 'Storage': a sound book): an event changes flows and tag sets alone, and keeps what a valid state says of these.
 -- Assumes nothing.
 use mathlib.Core.Path.{_≡_, refl, sym, _∙_, subst}
 use mathlib.Core.Bool.{true}

@@ -1,6 +1,6 @@
 -- The table of refusals: which number each call answers, in the paper's words and order. Each condition of an order is what its row says, and the
 -- rows leave no case out. Assumes nothing.
-use mathlib.Core.Path.{_≡_, refl, sym, _∙_, subst}
+use mathlib.Core.Path.{_≡_, refl, sym, _∙_}
 use mathlib.Core.Bool.{true, false, false≢true}
 use mathlib.Core.List.{List}
 use mathlib.Core.Logic.{_⊎_, _↔_, _≢_, ⊎-elim, by-cases}
@@ -9,7 +9,7 @@ use native.Mathlib.Decide.{decLt, ℕ-discrete}
 use native.Mathlib.Omega.{arith}
 use borrow.Table.Steps.{cases}
 use borrow.Author.Tests.{le-leb, lt-leb, eq-eqb, ne-eqb}
-use Rattle.refusal.specs.Order.{firstOf}
+use Rattle.refusal.specs.Order.{firstOf, by-rows}
 use Rattle.model.specs.declared.Flow.{Flow}
 use Rattle.model.specs.Model.{_∈_, isEnabled}
 use Rattle.model.specs.Standing.{enabled-number, number-enabled}
@@ -83,9 +83,8 @@ start-row n lent = ⊎-elim (λ z. (0, accepted z)) (λ z. (9, bad-size z)) (siz
 pub start-answers : (n : ℕ) (lent : Storage) (k : ℕ) → (startOf n lent .answer .refusal ≡ k) ↔ StartAnswers n lent k
 unfolding startOf
 start-answers n lent k =
-    let w = start-row n lent in
     rw (decided-number (firstOf (startOrder n lent) 0) (record { header = noHeader; storage = lent }) 0 (started n lent))
-    (λ e. subst (StartAnswers n lent) (sym (start-number n lent (w .1)) ∙ e) (w .1), start-number n lent)
+    (by-rows (StartAnswers n lent) (λ k. start-number n lent) (start-row n lent) k)
 
 -- ENABLING
 
@@ -140,8 +139,7 @@ pub enable-answers : (s : State) (f : Flow) (k : ℕ) → (enableOf s f .answer 
 unfolding enableOf
 enable-answers s f k =
     let w = by-state s (λ z. (9, bad-size z)) (λ z v. (12, invalid-state z v)) (enable-row s f) in
-    rw (decided-number (firstOf (enableOrder s f) 0) s _ (enabling s f))
-    (λ e. subst (EnableAnswers s f) (sym (enable-number s f (w .1)) ∙ e) (w .1), enable-number s f)
+    rw (decided-number (firstOf (enableOrder s f) 0) s _ (enabling s f)) (by-rows (EnableAnswers s f) (λ j. enable-number s f) w k)
 
 -- DISABLING
 
@@ -168,8 +166,7 @@ pub disable-answers : (s : State) (k j : ℕ) → (disableOf s k .answer .refusa
 unfolding disableOf
 disable-answers s k j =
     let w = by-state s (λ z. (9, bad-size z)) (λ z v. (12, invalid-state z v)) (disable-row s k) in
-    rw (decided-number (firstOf (disableOrder s k) 0) s 0 (disabling s k))
-    (λ e. subst (DisableAnswers s k) (sym (disable-number s k (w .1)) ∙ e) (w .1), disable-number s k)
+    rw (decided-number (firstOf (disableOrder s k) 0) s 0 (disabling s k)) (by-rows (DisableAnswers s k) (λ i. disable-number s k) w j)
 
 -- ADDING A POLICY SET
 
@@ -207,5 +204,4 @@ pub add-answers : (s : State) (c : ℕ) (p : TagSet) (k : ℕ) → (addOf s c p 
 unfolding addOf
 add-answers s c p k =
     let w = by-state s (λ z. (9, bad-size z)) (λ z v. (12, invalid-state z v)) (add-row s c p) in
-    rw (decided-number (firstOf (addOrder s c p) 0) s 0 (adding s c p))
-    (λ e. subst (AddAnswers s c p) (sym (add-number s c p (w .1)) ∙ e) (w .1), add-number s c p)
+    rw (decided-number (firstOf (addOrder s c p) 0) s 0 (adding s c p)) (by-rows (AddAnswers s c p) (λ j. add-number s c p) w k)

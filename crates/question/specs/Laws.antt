@@ -1,5 +1,5 @@
 -- Laws of questions: when a container is legal, which policy sets it has, what is answered and what is refused. Assumes nothing.
-use mathlib.Core.Path.{_≡_, refl, sym, ap, _∙_, subst}
+use mathlib.Core.Path.{_≡_, refl, sym, ap, _∙_}
 use mathlib.Core.Bool.{Bool, true, false, false≢true}
 use mathlib.Core.List.{List, [], _∷_, List·Memᴰ·head, List·Memᴰ·tail, List·Memᴰ·not-nil, List·Memᴰ·cases-cons}
 use mathlib.Core.Logic.{_↔_, ⊎-elim, by-cases}
@@ -9,7 +9,7 @@ use native.Mathlib.Omega.{arith}
 use lib.ListN.{length}
 use borrow.Table.Steps.{cases}
 use borrow.Author.Tests.{le-leb, lt-leb}
-use Rattle.refusal.specs.Order.{firstOf, IsFirst, first-number}
+use Rattle.refusal.specs.Order.{firstOf, IsFirst, first-number, by-rows}
 use Rattle.truth.specs.Truth.{or-either, left-or, right-or}
 use Rattle.model.specs.Model.{_∈_}
 use Rattle.model.specs.Reach.{tabulate}
@@ -211,7 +211,7 @@ module _ (s : State) (c : ℕ) where
 
   -- so the number answered is that of the row that applies
   pub question-answers : (k : ℕ) → (firstOf (questionOrder s c) 0 ≡ k) ↔ QuestionAnswers s c k
-  question-answers k = let w = some-row in (λ e. subst (QuestionAnswers s c) (sym (row-number (w .1)) ∙ e) (w .1), row-number)
+  question-answers = by-rows (QuestionAnswers s c) (λ k. row-number) some-row
 
   -- a question that is not refused is asked of a usable state and of one of its containers
   pub answered-state : firstOf (questionOrder s c) 0 ≡ 0 → Usable s × (c < n)

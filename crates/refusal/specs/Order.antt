@@ -1,6 +1,6 @@
 -- An order of refusals is a list of conditions, each with its answer: the first condition that holds decides (document 01, 'Order').
 -- Assumes nothing.
-use mathlib.Core.Path.{_≡_, refl, sym, ap, _∙_}
+use mathlib.Core.Path.{_≡_, refl, sym, ap, _∙_, subst}
 use mathlib.Core.Bool.{Bool, true, false, cond}
 use mathlib.Core.List.{List, [], _∷_, _++_}
 use mathlib.Core.Logic.{_⊎_, inl, inr, _↔_}
@@ -78,3 +78,8 @@ first-number cs k = (λ e. pick e (first-cases cs 0), λ h. first-is cs 0 h)
     pick : firstOf cs 0 ≡ suc k → NoneHolds cs ⊎ IsFirst cs (firstOf cs 0) → IsFirst cs (suc k)
     pick e (inl none) = absurd (suc-ne-zero k (sym e ∙ first-none cs 0 none))
     pick e (inr h) = rw e at h
+
+-- A TABLE of rows, each with its number: where a row that applies gives the number answered, and some row applies, a number is answered exactly if a row of
+-- that number applies
+pub by-rows : (Row : ℕ → Type 0) {answer : ℕ} → ((k : ℕ) → Row k → answer ≡ k) → (k : ℕ) × Row k → (k : ℕ) → (answer ≡ k) ↔ Row k
+by-rows Row number some k = (λ e. subst Row (sym (number (some .0) (some .1)) ∙ e) (some .1), number k)

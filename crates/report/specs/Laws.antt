@@ -8,7 +8,7 @@ use native.Mathlib.Nat.{suc-ne-zero, zero-add, add-zero}
 use native.Mathlib.Decide.{decLt, ℕ-discrete}
 use native.Mathlib.Omega.{arith}
 use lib.Dec.{eqb}
-use lib.ListN.{length, getD, take, drop, length-append, List·getD-append}
+use lib.ListN.{length, getD, take, drop, length-append, length-replicate, List·getD-append}
 use lib.Seq.{getD-append-add, take-at}
 use borrow.Table.Steps.{cases}
 use borrow.Author.Tests.{lt-ltb, le-ltb, ne-eqb, eqb-false, not-true}
@@ -21,12 +21,14 @@ use Rattle.leb128.specs.Output.{overwrite-start, write-fits, write-short}
 use Rattle.eventlog.specs.Log.{headAt}
 use Rattle.decimal.specs.Decimal.{decimalOf}
 use Rattle.decimal.specs.Laws.{decimal-digit, decimal-below}
+use Rattle.model.specs.declared.Flow.{Flow}
 use Rattle.model.specs.Model.{_∈_}
 use Rattle.tagset.specs.declared.TagSet.{TagSet}
 use Rattle.tagset.specs.Set.{has, one, countBelow, sizeOf}
 use Rattle.tagset.specs.Below.{count-cong, count-add}
 use Rattle.tagset.specs.Laws.{has-lt}
-use Rattle.state.specs.State.{Storage}
+use Rattle.state.specs.State.{Storage, noFlow}
+use Rattle.state.specs.IsValid.{IsSized}
 use Rattle.outcome.specs.Outcome.{noHeader}
 use Rattle.ranking.specs.Ranking.{rankingOf, rankedBy}
 use Rattle.ranking.specs.Laws.{ranking-length}
@@ -35,7 +37,7 @@ use Rattle.replay.specs.Replay.{Replay, replayOf, containersIn}
 use Rattle.replay.specs.Replies.{replayBy, endingOf}
 use Rattle.replay.specs.Laws.{replay-not-begun, replay-containers, replay-events}
 use Rattle.report.specs.Words.{spacedWords, lineWith, line-words, events-line-words, refused-line-words}
-use Rattle.report.specs.Text.{eventsWord, gainWord, refusedWord, atWord, space, newline, those, tagsRising, spaced, lineOf, linesOf, eventsLine, refusedLine, lastLine, reportOf, replayText, textOf, leftOf, tallyOf}
+use Rattle.report.specs.Text.{eventsWord, gainWord, refusedWord, atWord, space, newline, those, tagsRising, spaced, lineOf, linesOf, eventsLine, refusedLine, lastLine, reportOf, replayText, textOf, newStorage, leftOf, tallyOf}
 use Rattle.report.specs.Pieces.{those-in, those-out, spaced-one, lines-length, ranking-below}
 use Rattle.replay.specs.Numbers.{replay-room, replay-gain, replay-refusal, replay-byte}
 
@@ -323,6 +325,21 @@ text-fits bs lent are =
     by-cases (decLt 16384 (length bs))
     (λ l. rw (text-of-long-input bs lent l, ← last-refused 9 16384 0 0) (omega (arith, last-length 10 16384 0 0 (omega arith) (omega arith) (omega arith) (omega arith))))
     (λ n. let h : length bs ≤ 16384 = omega arith in rw (text-of-replay bs lent h) (replay-length bs lent are h))
+
+-- A NEW TRACKER'S STORAGE takes every n from 1 to 256, and no other
+pub new-storage-sized : (n : ℕ) → IsSized n newStorage ↔ ((1 ≤ n) × (n ≤ 256))
+new-storage-sized n = (λ z. (z .some, z .most), long)
+  where
+    long : (1 ≤ n) × (n ≤ 256) → IsSized n newStorage
+    long (some, most) =
+        record {
+          some = some;
+          most = most;
+          tag-words = omega (arith, most, length-replicate {A = ℕ} 1024 0);
+          policy-words = omega (arith, most, length-replicate {A = ℕ} 4096 0);
+          count-bytes = omega (arith, most, length-replicate {A = ℕ} 256 0);
+          records = omega (arith, length-replicate {A = Flow} 512 noFlow);
+        }
 
 -- WHAT IS WRITTEN
 

@@ -38,15 +38,10 @@ pub fn tally(
     ensures state { λ r. ⌜ stateOf (r .header) (now (tags .exit)) (now (policies .exit)) (now (counts .exit)) (r .flows) ≡ leftOf (now (bytes .entry)) (storageOf (now (tags .entry)) (now (policies .entry)) (now (counts .entry)) flows) ⌝ }
 {
     if 16384 < bytes.len() {
-        let none = Header {
-            containers: 0,
-            count: 0,
-            greatest: 0,
-        };
         let reply = write_report(out, tags, 0, 10, 16384, 0, 0);
         return Tallied {
             reply: reply,
-            header: none,
+            header: Header::NONE,
             flows: flows,
         };
     }

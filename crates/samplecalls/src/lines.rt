@@ -12,7 +12,7 @@ use tracker::Reply;
 
 // A table with no flow.
 pub fn no_flows() -> [Flow; 512] {
-    [flow(0, 0, 0); 512]
+    [Flow::NONE; 512]
 }
 
 // A flow.

@@ -18,6 +18,7 @@ pub fn run() {
     ends();
     numbers();
     large();
+    short_storage();
 }
 
 // Logs with no record: n at its limits, and heads that cannot be read.
@@ -103,15 +104,39 @@ fn large() {
     replay_line(&[2u8, 0, 1, 128, 1, 0]);
 }
 
-// A log and how its run ended.
+// Three containers, each time with one list a place too short. Nothing is written.
+fn short_storage() {
+    let mut tags = [7u64; 12];
+    let mut policies = [7u64; 48];
+    let mut counts = [7u8; 3];
+    let mut short_tags = [7u64; 11];
+    let mut short_policies = [7u64; 47];
+    let mut short_counts = [7u8; 2];
+    text(b"replay 3 in 11 words of tags");
+    replay_in(&[3u8], &mut short_tags, &mut policies, &mut counts);
+    text(b"replay 3 in 47 words of policies");
+    replay_in(&[3u8], &mut tags, &mut short_policies, &mut counts);
+    text(b"replay 3 in 2 counts");
+    replay_in(&[3u8], &mut tags, &mut policies, &mut short_counts);
+    text(b"counts left:");
+    spaced_bytes(&counts, 3);
+    text(b"\n");
+}
+
+// A log, run in a new tracker.
 fn replay_line(log: &[u8]) {
     text(b"replay");
     spaced_bytes(log, log.len());
-    text(b": ");
     let mut tags = [0u64; 1024];
     let mut policies = [0u64; 4096];
     let mut counts = [0u8; 256];
-    let done = replay::replay(log, &mut tags, &mut policies, &mut counts, no_flows());
+    replay_in(log, &mut tags, &mut policies, &mut counts);
+}
+
+// How the run of a log in this storage ended.
+fn replay_in(log: &[u8], tags: &mut [u64], policies: &mut [u64], counts: &mut [u8]) {
+    text(b": ");
+    let done = replay::replay(log, tags, policies, counts, no_flows());
     let ending = done.ending;
     let number = ending_refusal(ending);
     if number == 0 {

@@ -1,6 +1,8 @@
 // The texts of `tally`: of logs that end in each way, of long ones, and of an output that is too short.
 use eventlog::Event;
 use leb128::Encoded;
+use report::Tallied;
+use samplecalls::lines::header_text;
 use samplecalls::lines::no_flows;
 use samplelog::example;
 use samplelog::example::enable;
@@ -57,13 +59,17 @@ fn many_containers() {
     }
 }
 
-// The example into ten bytes of 7.
+// The example into ten bytes of 7, and the header that the run leaves all the same.
 fn short_output() {
     text(b"tally of the example into 10 bytes:\n");
     let mut out = [7u8; 10];
-    writing(tallied(&example::log(), &mut out));
+    let done = tallied(&example::log(), &mut out);
+    let reply = done.reply;
+    writing(reply);
     text(b", leaves");
     spaced_bytes(&out, 10);
+    text(b", ");
+    header_text(done.header);
     text(b"\n");
 }
 
@@ -80,7 +86,8 @@ fn tally_text(name: &[u8], input: &[u8]) {
     text(name);
     text(b":\n");
     let mut out = [0u8; 264256];
-    let reply = tallied(input, &mut out);
+    let done = tallied(input, &mut out);
+    let reply = done.reply;
     if let Encoded::Next(length) = reply {
         if length <= 264256 {
             text(&out[..length]);
@@ -94,28 +101,27 @@ fn tally_length(name: &[u8], input: &[u8]) {
     text(name);
     text(b", its length:\n");
     let mut out = [0u8; 264256];
-    let reply = tallied(input, &mut out);
+    let done = tallied(input, &mut out);
+    let reply = done.reply;
     if let Encoded::Next(length) = reply {
         decimal(length as u64);
     }
     text(b"\n");
 }
 
-// Runs an input in a new tracker. The answer is that of writing the text.
-fn tallied(input: &[u8], out: &mut [u8]) -> Encoded {
+// Runs an input in a new tracker.
+fn tallied(input: &[u8], out: &mut [u8]) -> Tallied {
     let mut tags = [0u64; 1024];
     let mut policies = [0u64; 4096];
     let mut counts = [0u8; 256];
-    let done = report::tally(
+    report::tally(
         input,
         &mut tags,
         &mut policies,
         &mut counts,
         no_flows(),
         out,
-    );
-    let reply = done.reply;
-    reply
+    )
 }
 
 // Writes the log of two containers that enables 1 to 513 from 0 to 1. The answer is the position after it.

@@ -6,11 +6,7 @@ fn main() {
     let mut tags = [0u64; 1024];
     let mut policies = [0u64; 4096];
     let mut counts = [0u8; 256];
-    let none = [Flow {
-        number: 0,
-        from: 0,
-        to: 0,
-    }; 512];
+    let none = [Flow::NONE; 512];
     let started = tracker::start(256, &mut tags, &mut policies, &mut counts, none);
     let full = fill(started, &mut tags, &policies, &counts);
     let ended = turn_over(full, &mut tags, &policies, &counts);

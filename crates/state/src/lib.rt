@@ -5,3 +5,12 @@ pub struct Header {
     pub count: u32,
     pub greatest: u32,
 }
+
+impl Header {
+    // The header of no tracker: what a refused start answers.
+    pub const NONE: Header = Header {
+        containers: 0,
+        count: 0,
+        greatest: 0,
+    };
+}

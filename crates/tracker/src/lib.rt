@@ -45,15 +45,7 @@ pub fn start(
     ensures { λ r. ⌜ leftBy r (now (tags .exit)) (now (policies .exit)) (now (counts .exit)) ≡ startOf n (storageOf (now (tags .entry)) (now (policies .entry)) (now (counts .entry)) flows) ⌝ }
 {
     if validity::bad_size(n, tags.len(), policies.len(), counts.len(), 512) {
-        return refused(
-            Reply::BadSize,
-            Header {
-                containers: 0,
-                count: 0,
-                greatest: 0,
-            },
-            flows,
-        );
+        return refused(Reply::BadSize, Header::NONE, flows);
     }
     tagstore::store_own_tags(tags, n);
     tagstore::clear_words(policies, 16 * (n as usize));
@@ -65,11 +57,7 @@ pub fn start(
             count: 0,
             greatest: 0,
         },
-        flows: [Flow {
-            number: 0,
-            from: 0,
-            to: 0,
-        }; 512],
+        flows: [Flow::NONE; 512],
     }
 }
 

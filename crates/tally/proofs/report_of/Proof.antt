@@ -1,15 +1,15 @@
 -- The text is at the start of the output, which it always fits. Assumes nothing.
 use mathlib.Core.Path.{_≡_, sym, ap, _∙_}
-use mathlib.Core.List.{List}
-use Prim.Native.Nat.{ℕ, _≤_}
+use mathlib.Core.List.{List, [], _∷_}
+use Prim.Native.Nat.{ℕ, zero, suc, _≤_}
 use native.Mathlib.Omega.{arith}
-use lib.ListN.{length}
+use lib.ListN.{length, take, length-take}
 use lib.Seq.{length-take-le}
 use borrow.Author.Needs.{needs}
 use Rattle.leb128.specs.declared.Encoded.{Encoded}
 use Rattle.leb128.specs.declared.Encoded.the-variants.{Next}
 use Rattle.leb128.specs.Answer.{Writing, writingOf}
-use Rattle.leb128.specs.Number.{writeAt, Written}
+use Rattle.leb128.specs.Number.{IsBytes, writeAt, Written}
 use Rattle.leb128.specs.Output.{unrefused-fits, write-fits, write-length}
 use Rattle.io.specs.Counts.{Counts}
 use Rattle.report.specs.Text.{newStorage}
@@ -31,14 +31,28 @@ counts : (out bs : List ℕ) {r : Encoded} {left : List ℕ} (p : ℕ) → writi
 counts out bs {left = left} p e o n =
     let l : p ≤ length left = omega (arith, within out bs p e n, ap length o ∙ write-length out 0 bs) in (l, sym (length-take-le p left l))
 
+-- the first bytes are bytes
+take-bytes : (n : ℕ) (s : List ℕ) → IsBytes s → IsBytes (take n s)
+take-bytes zero s h k = omega arith
+take-bytes (suc n) [] h k = h k
+take-bytes (suc n) (b ∷ bs) h zero = h 0
+take-bytes (suc n) (b ∷ bs) h (suc k) = take-bytes n bs (λ i. h (suc i)) k
+
+-- and so are those that are run
+input-bytes : (c : tie.After-shared-slice-known) → IsBytes (take (c .before .args .n) (c .before .args .input .now))
+input-bytes c = take-bytes (c .before .args .n) (c .before .args .input .now) (λ k. c .shared-slice-known .given k .fits)
+
 slice-aggregate-tally : tie.Need-slice-aggregate-tally
-slice-aggregate-tally c = search needs
+slice-aggregate-tally c = simp length-take (omega arith)
 
 slice-aggregate-tally-2 : tie.Need-slice-aggregate-tally-2
 slice-aggregate-tally-2 c = search needs
 
 slice-aggregate-tally-3 : tie.Need-slice-aggregate-tally-3
 slice-aggregate-tally-3 c = search needs
+
+slice-aggregate-tally-4 : tie.Need-slice-aggregate-tally-4
+slice-aggregate-tally-4 c = search needs
 
 tally-requires : tie.Need-tally-requires
 tally-requires c κs = search needs
@@ -59,8 +73,7 @@ returns c =
     let made = t .tally .ensures in
     let told = c .before .reply .given .1 in (
       counts _ _ (c .before .reply .given .0 .0) (made .0) (made .1 .0) told,
-      tally-prints (x .args .bytes .now) newStorage (x .args .text .now) (λ k. t .before .before .before .before .before .before .shared-slice-known .given k .fits) (omega arith)
-          (made .0) (made .1 .0) (c .before .reply .given .0 .0) told,
+      tally-prints (take (x .before .args .n) (x .before .args .input .now)) newStorage (x .before .args .text .now) (input-bytes x) (omega arith) (made .0) (made .1 .0) (c .before .reply .given .0 .0) told,
     )
 
 same-length-2 : tie.Need-same-length-2
@@ -70,9 +83,7 @@ returns-2 : tie.Need-returns-2
 returns-2 c =
     let t = c .before .before .before .before .before .before .before in
     let x = t .before .before .before .before .before .before .before in
-    absurd
-    (tally-not-short (x .args .bytes .now) newStorage (x .args .text .now) (λ k. t .before .before .before .before .before .before .shared-slice-known .given k .fits) (omega arith)
-    (t .tally .ensures .0) (c .enum-told .given .1))
+    absurd (tally-not-short (take (x .before .args .n) (x .before .args .input .now)) newStorage (x .before .args .text .now) (input-bytes x) (omega arith) (t .tally .ensures .0) (c .enum-told .given .1))
 
 pub report-of-spec : {M : Type 1} → statement M
 report-of-spec =
@@ -81,6 +92,7 @@ report-of-spec =
     slice-aggregate-tally
     slice-aggregate-tally-2
     slice-aggregate-tally-3
+    slice-aggregate-tally-4
     tally-requires
     enum-known-reply
     enum-told
