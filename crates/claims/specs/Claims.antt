@@ -77,15 +77,15 @@ use Rattle.replay.specs.Joins.{joining, doneOf, replay-done}
 use Rattle.replay.specs.Numbers.{begins-exactly-if}
 use Rattle.decimal.specs.Decimal.{decimalOf, numberOf}
 use Rattle.decimal.specs.Laws.{decimal-last, decimal-value, decimal-digit, decimal-front}
-use Rattle.report.specs.Text.{eventsWord, gainWord, refusedWord, atWord, tagsRising, lineOf, linesOf, eventsLine, refusedLine, textOf, newStorage, printedOf, leftOf, tallyOf}
+use Rattle.tallytext.specs.Text.{eventsWord, gainWord, refusedWord, atWord, tagsRising, lineOf, linesOf, eventsLine, refusedLine, textOf, newStorage, printedOf, leftOf, tallyOf}
 use Rattle.report.specs.declared.Tallied.{Tallied}
-use Rattle.report.specs.Words.{lineWith, line-words, events-line-words, refused-line-words, no-lines, line-by-line}
-use Rattle.report.specs.Laws.{tags-members, tags-rising, tags-count, IsLine, line-ends, events-line-ends, refused-line-ends, text-of-long-input, text-of-unusable-n, text-of-complete-replay, text-of-refused-replay, left-of-replay, left-of-long-input, new-storage-sized, tally-short, tally-fits, tally-suffices}
+use Rattle.tallytext.specs.Words.{lineWith, line-words, events-line-words, refused-line-words, no-lines, line-by-line}
+use Rattle.tallytext.specs.Laws.{tags-members, tags-rising, tags-count, IsLine, line-ends, events-line-ends, refused-line-ends, text-of-long-input, text-of-unusable-n, text-of-complete-replay, text-of-refused-replay, left-of-replay, left-of-long-input, new-storage-sized, tally-short, tally-fits, tally-suffices}
 use Rattle.claims.specs.Permission.{takes, givenTo, SameSets, Known, takes-exactly-if, list-follows, policies-are-those-given, accepted-exactly-if-taken, questions-are-answered, others-are-no-container, rank-is-answered, legal-exactly-if-given, same-set-twice-takes-two-places, a-fifth-is-not-taken}
 
 -- THE DEFINITIONS: model/specs/Model.antt (containers, flows, executions; no word of a tracker) and Reach.antt; state/specs/State.antt and
 -- Valid.antt; outcome/specs/Outcome.antt; question/specs/Question.antt; ranking/specs/Ranking.antt; leb128/specs/Number.antt and Answer.antt;
--- eventlog/specs/Answer.antt and Log.antt; replay/specs/Replay.antt; decimal/specs/Decimal.antt; report/specs/Text.antt; with tagset/specs/Set.antt
+-- eventlog/specs/Answer.antt and Log.antt; replay/specs/Replay.antt; decimal/specs/Decimal.antt; tallytext/specs/Text.antt; with tagset/specs/Set.antt
 -- and refusal/specs/Order.antt (`firstOf`, IsFirst). For the running calls: Replies.antt of tracker, question, ranking and replay (what the contracts
 -- cite), tracker/specs/Unjudged.antt, validity/specs/Judge.antt, flowtable/specs/FlowTable.antt, propagation/specs/Pass.antt,
 -- tagstore/specs/Store.antt.
@@ -94,7 +94,7 @@ use Rattle.claims.specs.Permission.{takes, givenTo, SameSets, Known, tak
 -- IsStarted, FlowsChanged (Steps.antt); PolicyAdded (Policies.antt); SameBeyond (Effects.antt); Follows (Follows.antt); QuestionAnswers
 -- (question/specs/Laws.antt); RankAnswers (ranking/specs/Laws.antt); IsTruncated, IsOverlong (leb128/specs/Refusals.antt); IsPart (Part.antt);
 -- SomeField, IsUnknown (eventlog/specs/Refusals.antt); IsEvent, IsRecord, IsLog, complete (Laws.antt, LogLaws.antt), AreEvents (Records.antt); ContainersAnswers, AllAccepted, gainsOf,
--- Completes, Stops, Replays (replay/specs/Laws.antt); joining, doneOf (Joins.antt); lineWith, IsLine (report/specs/Words.antt, Laws.antt); takes,
+-- Completes, Stops, Replays (replay/specs/Laws.antt); joining, doneOf (Joins.antt); lineWith, IsLine (tallytext/specs/Words.antt, Laws.antt); takes,
 -- givenTo, SameSets, Known (Permission.antt); StartDoes, EventDoes, EnableDoes, DisableDoes, AddDoes, Called (Running.antt); Standing, Accepted, Occurs,
 -- MayEnable, Within (model/specs/Standing.antt, Histories.antt, Closure.antt).
 
@@ -530,7 +530,7 @@ pub replay-leaves-valid : (bs : List ℕ) (lent : Storage) → containersIn bs l
     → Usable (replayOf bs lent .state) × (replayOf bs lent .state .header .containers ≡ headAt bs .value) × SameBeyond (headAt bs .value) (replayOf bs lent .state .storage) lent
 replay-leaves-valid bs lent b = (replay-usable bs lent b, replay-containers bs lent b, replay-beyond bs lent b)
 
--- THE TEXT of `tally` (report/specs/Text.antt), line by line. A line is its words with single spaces between them (`lineWith`): of a container its number, its
+-- THE TEXT of `tally` (tallytext/specs/Text.antt), line by line. A line is its words with single spaces between them (`lineWith`): of a container its number, its
 -- size and its tags, which rise; of the end `events`, their number, `gain`, their sum, or `refused`, the number, `at`, the byte
 pub the-line-of-a-container : (c : ℕ) (s : TagSet) → lineOf c s ≡ lineWith (decimalOf c) (map decimalOf (sizeOf s ∷ tagsRising s))
 the-line-of-a-container = line-words

@@ -30,8 +30,8 @@ use Rattle.replay.specs.Laws.{replay-does, replay-starts}
 use Rattle.replay.specs.Joins.{doneOf, replay-done}
 use Rattle.replay.specs.Numbers.{replay-refusal}
 use Rattle.report.specs.declared.Tallied.{Tallied}
-use Rattle.report.specs.Text.{leftOf}
-use Rattle.report.specs.Laws.{left-of-replay}
+use Rattle.tallytext.specs.Text.{leftOf}
+use Rattle.tallytext.specs.Laws.{left-of-replay}
 use Rattle.outcome.specs.Outcome.{Outcome, noHeader, startOf, gainOf, enableOf, disableOf, addOf, Call, ask, add, outcomeOf, after}
 use Rattle.outcome.specs.Refusals.{start-refused, call-refused, call-unaccepted}
 use Rattle.outcome.specs.Table.{StartAnswers, start-answers, EnableAnswers, enable-answers, DisableAnswers, disable-answers, AddAnswers, add-answers, bad-size, invalid-state, no-such-from, no-such-to, self-flow, stale-number, table-full, not-enabled, no-such-container, unknown-tag, policy-full, accepted}

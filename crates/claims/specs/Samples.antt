@@ -21,7 +21,7 @@ use Rattle.question.specs.Question.{questionOrder, asked as askedOf, anyOf, pol
 use Rattle.ranking.specs.Ranking.{comesBefore, ranksBefore, inserted, rankedBy, rankingOf}
 use Rattle.decimal.specs.Decimal.{digits, decimalOf}
 use Rattle.replay.specs.Replay.{replayEvents, replayFrom, containersAt, begun, replayOf}
-use Rattle.report.specs.Text.{those, spaced, lineOf, linesOf, eventsLine, refusedLine, lastLine, reportOf, replayText, textOf, printedOf}
+use Rattle.tallytext.specs.Text.{those, spaced, lineOf, linesOf, eventsLine, refusedLine, lastLine, reportOf, replayText, textOf, printedOf}
 
 -- a row, with what must come of it
 pub data Sample : Type 0 where

@@ -1,4 +1,4 @@
-// The text of `tally`: an input run in a lent tracker, and its report in a lent output. What the text is stands in specs/Text.antt.
+// The text of `tally`: an input run in a lent tracker, and its report in a lent output. What the text is stands in tallytext/specs/Text.antt.
 // The private functions take positions up to some millions, far past the end of every text (264,256 bytes): so no sum of a position wraps.
 use leb128::Encoded;
 use model::Flow;
@@ -14,7 +14,7 @@ ghost use Rattle.leb128.specs.Number.{writeAt};
 ghost use Rattle.decimal.specs.Decimal.{decimalOf};
 ghost use Rattle.state.specs.State.{storageOf, stateOf};
 ghost use Rattle.replay.specs.Replies.{endingOf};
-ghost use Rattle.report.specs.Text.{space, newline, spaced, tagsRising, lineOf, linesOf, lastLine, reportOf, leftOf, tallyOf};
+ghost use Rattle.tallytext.specs.Text.{space, newline, spaced, tagsRising, lineOf, linesOf, lastLine, reportOf, leftOf, tallyOf};
 ghost use Rattle.report.specs.Put.{Put};
 
 // What a run of `tally` gives back: the length of its text or that the output is too short, the header and the flow table.

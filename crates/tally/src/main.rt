@@ -5,7 +5,7 @@ ghost use mathlib.Core.Path.{_≡_};
 ghost use Prim.Native.Nat.{_≤_};
 ghost use lib.ListN.{length, take};
 ghost use Rattle.io.specs.Counts.{Counts};
-ghost use Rattle.report.specs.Text.{printedOf};
+ghost use Rattle.tallytext.specs.Text.{printedOf};
 
 fn main() {
     let mut input = [0u8; 16385];

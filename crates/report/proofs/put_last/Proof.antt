@@ -2,7 +2,7 @@
 use native.Mathlib.Omega.{arith}
 use borrow.Author.Needs.{needs}
 use borrow.Author.Tests.{eq-eqb, ne-eqb}
-use Rattle.report.specs.Text.{eventsLine, refusedLine, lastLine}
+use Rattle.tallytext.specs.Text.{eventsLine, refusedLine, lastLine}
 use Rattle.report.proofs.put_last.Statement.{statement}
 use Rattle.report.proofs.put_last.Tie as tie
 

@@ -5,9 +5,9 @@ use lib.ListN.{length}
 use borrow.Author.Needs.{needs}
 use Rattle.decimal.specs.Decimal.{decimalOf}
 use Rattle.decimal.specs.Laws.{decimal-3}
-use Rattle.report.specs.Text.{spaced, lineOf}
+use Rattle.tallytext.specs.Text.{spaced, lineOf}
 use Rattle.report.specs.Put.{put-append}
-use Rattle.report.specs.Pieces.{size-length, tags-length}
+use Rattle.tallytext.specs.Pieces.{size-length, tags-length}
 use Rattle.report.proofs.put_line.Statement.{statement}
 use Rattle.report.proofs.put_line.Tie as tie
 

@@ -9,9 +9,9 @@ use borrow.Author.Needs.{needs}
 use Rattle.tagset.specs.declared.TagSet.{TagSet}
 use Rattle.state.specs.State.{setAt}
 use Rattle.tagstore.specs.Laws.{load-whole}
-use Rattle.report.specs.Text.{lineOf, linesOf}
+use Rattle.tallytext.specs.Text.{lineOf, linesOf}
 use Rattle.report.specs.Put.{Putting, putting-begun, putting-next, putting-ended}
-use Rattle.report.specs.Pieces.{line-next, lines-end, line-length}
+use Rattle.tallytext.specs.Pieces.{line-next, lines-end, line-length}
 use Rattle.report.proofs.put_lines.Statement.{statement}
 use Rattle.report.proofs.put_lines.Tie as tie
 

@@ -6,7 +6,7 @@ use borrow.Author.Needs.{needs}
 use Rattle.decimal.specs.Decimal.{decimalOf}
 use Rattle.decimal.specs.Laws.{decimal-20}
 use Rattle.report.specs.Put.{put-append}
-use Rattle.report.specs.Pieces.{spaced-one}
+use Rattle.tallytext.specs.Pieces.{spaced-one}
 use Rattle.report.proofs.put_pair.Statement.{statement}
 use Rattle.report.proofs.put_pair.Tie as tie
 

@@ -5,9 +5,9 @@ use native.Mathlib.Omega.{arith}
 use lib.ListN.{length, take}
 use lib.Seq.{getD-take, length-take-le}
 use borrow.Author.Needs.{needs}
-use Rattle.report.specs.Text.{linesOf}
+use Rattle.tallytext.specs.Text.{linesOf}
 use Rattle.report.specs.Put.{put-append}
-use Rattle.report.specs.Pieces.{lines-length}
+use Rattle.tallytext.specs.Pieces.{lines-length}
 use Rattle.report.proofs.put_report.Statement.{statement}
 use Rattle.report.proofs.put_report.Tie as tie
 

@@ -8,9 +8,9 @@ use native.Mathlib.Omega.{arith}
 use borrow.Author.Needs.{needs}
 use Rattle.decimal.specs.Decimal.{decimalOf}
 use Rattle.decimal.specs.Laws.{decimal-3}
-use Rattle.report.specs.Text.{space, spaced, tagsRising}
+use Rattle.tallytext.specs.Text.{space, spaced, tagsRising}
 use Rattle.report.specs.Put.{Putting, putting-begun, putting-next, putting-ended}
-use Rattle.report.specs.Pieces.{tagsFrom, tag-in, tag-out, tags-end}
+use Rattle.tallytext.specs.Pieces.{tagsFrom, tag-in, tag-out, tags-end}
 use Rattle.report.proofs.put_tags.Statement.{statement}
 use Rattle.report.proofs.put_tags.Tie as tie
 

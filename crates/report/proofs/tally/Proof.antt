@@ -10,9 +10,9 @@ use Rattle.leb128.specs.Number.{writeAt}
 use Rattle.state.specs.State.{Storage, storageOf, stateOf}
 use Rattle.replay.specs.Replay.{Replay}
 use Rattle.replay.specs.Replies.{endingOf}
-use Rattle.report.specs.Text.{reportOf, textOf, leftOf}
+use Rattle.tallytext.specs.Text.{reportOf, textOf, leftOf}
 use Rattle.replay.specs.Numbers.{replay-room}
-use Rattle.report.specs.Laws.{left-of-long-input, left-of-replay, long-report, replay-report}
+use Rattle.tallytext.specs.Laws.{left-of-long-input, left-of-replay, long-report, replay-report}
 use Rattle.report.proofs.tally.Statement.{statement}
 use Rattle.report.proofs.tally.Tie as tie
 

@@ -8,9 +8,9 @@ use borrow.Author.Needs.{needs}
 use Rattle.leb128.specs.Answer.{Writing, wrote}
 use Rattle.leb128.specs.Output.{short-outcome}
 use Rattle.ranking.specs.Ranking.{rankingOf}
-use Rattle.report.specs.Text.{linesOf, lastLine, reportOf}
+use Rattle.tallytext.specs.Text.{linesOf, lastLine, reportOf}
 use Rattle.report.specs.Put.{Put, put-fits}
-use Rattle.report.specs.Pieces.{order-first, order-below}
+use Rattle.tallytext.specs.Pieces.{order-first, order-below}
 use Rattle.report.proofs.write_report.Statement.{statement}
 use Rattle.report.proofs.write_report.Tie as tie
 

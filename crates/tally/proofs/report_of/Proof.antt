@@ -12,8 +12,8 @@ use Rattle.leb128.specs.Answer.{Writing, writingOf}
 use Rattle.leb128.specs.Number.{IsBytes, writeAt, Written}
 use Rattle.leb128.specs.Output.{unrefused-fits, write-fits, write-length}
 use Rattle.io.specs.Counts.{Counts}
-use Rattle.report.specs.Text.{newStorage}
-use Rattle.report.specs.Laws.{tally-prints, tally-not-short}
+use Rattle.tallytext.specs.Text.{newStorage}
+use Rattle.tallytext.specs.Laws.{tally-prints, tally-not-short}
 use Rattle.tally.proofs.report_of.Statement.{statement}
 use Rattle.tally.proofs.report_of.Tie as tie
 

@@ -6,7 +6,7 @@ use Rattle.decimal.specs.Decimal.{decimalOf}
 use Rattle.tagset.specs.declared.TagSet.{TagSet}
 use Rattle.tagset.specs.Set.{sizeOf}
 use Rattle.state.specs.State.{setAt}
-use Rattle.report.specs.Text.{eventsWord, gainWord, refusedWord, atWord, space, newline, tagsRising, spaced, lineOf, linesOf, eventsLine, refusedLine}
+use Rattle.tallytext.specs.Text.{eventsWord, gainWord, refusedWord, atWord, space, newline, tagsRising, spaced, lineOf, linesOf, eventsLine, refusedLine}
 
 -- words, each behind a space
 unfoldable pub spacedWords : List (List ℕ) → List ℕ

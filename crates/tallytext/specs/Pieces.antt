@@ -17,7 +17,7 @@ use Rattle.state.specs.State.{setAt}
 use Rattle.ranking.specs.Ranking.{rankingOf, rankInto}
 use Rattle.ranking.specs.Sorted.{getD-member}
 use Rattle.ranking.specs.Laws.{ranking-length, ranking-members, rank-into-done}
-use Rattle.report.specs.Text.{those, spaced, space, tagsRising, lineOf, linesOf}
+use Rattle.tallytext.specs.Text.{those, spaced, space, tagsRising, lineOf, linesOf}
 
 module _ (i k : ℕ) (p : ℕ → Bool) where
   -- a number that passes the test comes first

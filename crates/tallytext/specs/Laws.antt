@@ -36,9 +36,9 @@ use Rattle.replay.specs.declared.Replayed.{Replayed}
 use Rattle.replay.specs.Replay.{Replay, replayOf, containersIn}
 use Rattle.replay.specs.Replies.{replayBy, endingOf}
 use Rattle.replay.specs.Laws.{replay-not-begun, replay-containers, replay-events}
-use Rattle.report.specs.Words.{spacedWords, lineWith, line-words, events-line-words, refused-line-words}
-use Rattle.report.specs.Text.{eventsWord, gainWord, refusedWord, atWord, space, newline, those, tagsRising, spaced, lineOf, linesOf, eventsLine, refusedLine, lastLine, reportOf, replayText, textOf, newStorage, leftOf, tallyOf}
-use Rattle.report.specs.Pieces.{those-in, those-out, spaced-one, lines-length, ranking-below}
+use Rattle.tallytext.specs.Words.{spacedWords, lineWith, line-words, events-line-words, refused-line-words}
+use Rattle.tallytext.specs.Text.{eventsWord, gainWord, refusedWord, atWord, space, newline, those, tagsRising, spaced, lineOf, linesOf, eventsLine, refusedLine, lastLine, reportOf, replayText, textOf, newStorage, leftOf, tallyOf}
+use Rattle.tallytext.specs.Pieces.{those-in, those-out, spaced-one, lines-length, ranking-below}
 use Rattle.replay.specs.Numbers.{replay-room, replay-gain, replay-refusal, replay-byte}
 
 -- THE WHOLE TEXT
