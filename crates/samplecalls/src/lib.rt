@@ -1,3 +1,4 @@
-// The tracker's calls, each with the line that a sample prints of it.
-pub mod answers;
-pub mod lines;
+// A tracker by a line of a script: what each call answers, behind the line.
+pub mod asks;
+pub mod calls;
+pub mod pokes;

@@ -1,6 +1,4 @@
-// Samples on numbers, logs and tag sets, a line each, and the functions that print them.
-pub mod example;
+// Numbers, logs and tag sets by a line of a script: what each function answers, behind the line.
 pub mod logs;
 pub mod numbers;
-pub mod print;
 pub mod sets;

@@ -1,60 +1,55 @@
-// Tag sets and what their operations give, a line each.
-use crate::print::decimal;
-use crate::print::spaced_tags;
-use crate::print::text;
-use crate::print::yes_line;
+// Tag sets.
+use sampleline::Numbers;
+use sampleline::print::named;
+use sampleline::print::spaced_tags;
+use sampleline::print::text;
+use sampleline::print::yes;
 use tagset::TagSet;
 
-// Two sets, with a tag at each end of a word, and what the operations make of them.
-pub fn run() {
-    let first = of_three(0, 63, 64);
-    let second = of_three(64, 128, 255);
-    made(first, second);
-    limits();
-    compared(first, first.union(second));
-    asked(first, second);
+// `pair T.. 999 T..`: two sets, before 999 and behind it: their union, intersection and sizes, whether the first is part of the second, and equal to it.
+pub fn pair(a: Numbers) {
+    let middle = middle_of(a);
+    let first = a.tags(0, middle);
+    let second = a.tags(middle, a.count);
+    text(b": union");
+    spaced_tags(first.union(second));
+    text(b", intersection");
+    spaced_tags(first.intersection(second));
+    sizes(first, second);
 }
 
-// The set of three tags.
-fn of_three(a: u32, b: u32, c: u32) -> TagSet {
-    TagSet::single(a)
-        .union(TagSet::single(b))
-        .union(TagSet::single(c))
+// The rest of the line for two sets.
+fn sizes(first: TagSet, second: TagSet) {
+    named(b", sizes ", first.size() as u64);
+    named(b" ", second.size() as u64);
+    text(b", part ");
+    yes(first.is_subset(second));
+    text(b", equal ");
+    yes(first.equals(second));
 }
 
-// The sets and what is made of both.
-fn made(first: TagSet, second: TagSet) {
-    set_line(b"first:", first);
-    set_line(b"second:", second);
-    set_line(b"union:", first.union(second));
-    set_line(b"intersection:", first.intersection(second));
+// The place of 999, which is no tag.
+fn middle_of(a: Numbers) -> usize {
+    let mut i: usize = 0;
+    while i < 64 {
+        if a.get(i) == 999 {
+            return i;
+        }
+        i += 1;
+    }
+    i
 }
 
-// The tags below a number, and none.
-fn limits() {
-    set_line(b"below 65:", TagSet::below(65));
-    set_line(b"none:", TagSet::empty());
-}
-
-// Whether one set is a part of the other.
-fn compared(first: TagSet, union: TagSet) {
-    yes_line(b"first is a part of union: ", first.is_subset(union));
-    yes_line(b"union is a part of first: ", union.is_subset(first));
-}
-
-// Whether two sets are the same, and whether one names a tag of a number or more.
-fn asked(first: TagSet, second: TagSet) {
-    yes_line(b"first equals first: ", first.equals(first));
-    yes_line(b"first equals second: ", first.equals(second));
-    yes_line(b"second names 255 or more: ", second.exceeds(255));
-    yes_line(b"second names 256 or more: ", second.exceeds(256));
-}
-
-// A set behind its name: its tags and its size.
-fn set_line(name: &[u8], s: TagSet) {
-    text(name);
+// `under N`: the set of all tags below N.
+pub fn under(a: Numbers) {
+    let s = TagSet::below(a.small(0));
+    named(b": size ", s.size() as u64);
+    text(b",");
     spaced_tags(s);
-    text(b" size ");
-    decimal(s.size() as u64);
-    text(b"\n");
+}
+
+// `over N T..`: whether the set names a tag of N or more.
+pub fn over(a: Numbers) {
+    text(b": ");
+    yes(a.tags(1, a.count).exceeds(a.small(0)));
 }

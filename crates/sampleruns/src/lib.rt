@@ -1,3 +1,3 @@
-// Samples on calls: starting, the full table, refused events, policy sets, questions, the ranking.
-pub mod calls;
-pub mod starts;
+// Whole logs by a line of a script: how a replay ends, and the text of `tally`.
+pub mod large;
+pub mod runs;
