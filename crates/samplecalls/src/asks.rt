@@ -90,3 +90,22 @@ pub fn view(now: Answered, tags: &[u64]) {
         c += 1;
     }
 }
+
+// `list`: the enabled flows, each with its number and ends.
+pub fn list(now: Answered) {
+    let header = now.header;
+    let flows = now.flows;
+    let count = header.count;
+    text(b":");
+    let mut k: usize = 0;
+    while k < 512 {
+        if count as usize <= k {
+            return;
+        }
+        let f = flows[k];
+        named(b" | ", f.number as u64);
+        named(b" ", f.from as u64);
+        named(b" ", f.to as u64);
+        k += 1;
+    }
+}

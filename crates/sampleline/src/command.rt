@@ -16,6 +16,7 @@ pub enum Command {
     Judge,
     Large,
     Legal,
+    List,
     Log,
     Note,
     Now,
@@ -77,6 +78,7 @@ fn with_l(second: u8) -> Command {
     match second {
         b'a' => Command::Large,
         b'e' => Command::Legal,
+        b'i' => Command::List,
         _ => Command::Log,
     }
 }

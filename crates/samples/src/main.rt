@@ -207,6 +207,7 @@ fn ask(
         Command::Legal => asks::legal(a, now, tags, policies, counts),
         Command::Rank => asks::rank(a, now, tags, policies, counts),
         Command::View => asks::view(now, tags),
+        Command::List => asks::list(now),
         Command::Now => calls::header_text(b": n ", now.header),
         _ => read(command, a, s),
     }
