@@ -93,10 +93,10 @@ use Rattle.claims.specs.Permission.{takes, givenTo, SameSets, Known, tak
 -- (tagstore/specs/Store.antt); StartAnswers, Enables, EnableAnswers, DisableAnswers, Adds, AddAnswers (outcome/specs/Table.antt); Sentence,
 -- IsStarted, FlowsChanged (Steps.antt); PolicyAdded (Policies.antt); SameBeyond (Effects.antt); Follows (Follows.antt); QuestionAnswers
 -- (question/specs/Laws.antt); RankAnswers (ranking/specs/Laws.antt); IsTruncated, IsOverlong (leb128/specs/Refusals.antt); IsPart (Part.antt);
--- SomeField, IsUnknown (eventlog/specs/Refusals.antt); IsEvent, IsRecord, IsLog, complete (Laws.antt, LogLaws.antt), AreEvents (Records.antt); ContainersAnswers, AllAccepted, gainsOf,
--- Completes, Stops, Replays (replay/specs/Laws.antt); joining, doneOf (Joins.antt); lineWith, IsLine (tallytext/specs/Words.antt, Laws.antt); takes,
--- givenTo, SameSets, Known (Permission.antt); StartDoes, EventDoes, EnableDoes, DisableDoes, AddDoes, Called (Running.antt); Standing, Accepted, Occurs,
--- MayEnable, Within (model/specs/Standing.antt, Histories.antt, Closure.antt).
+-- SomeField, IsUnknown (eventlog/specs/Refusals.antt); IsEvent, IsRecord, IsLog, complete (Laws.antt, LogLaws.antt), AreEvents (Records.antt);
+-- ContainersAnswers, AllAccepted, gainsOf, Completes, Stops, Replays (replay/specs/Laws.antt); joining, doneOf (Joins.antt); lineWith, IsLine
+-- (tallytext/specs/Words.antt, Laws.antt); takes, givenTo, SameSets, Known (Permission.antt); StartDoes, EventDoes, EnableDoes, DisableDoes, AddDoes,
+-- Called (Running.antt); Standing, Accepted, Occurs, MayEnable, Within (model/specs/Standing.antt, Histories.antt, Closure.antt).
 
 -- DEMAND 1: the work, or the refusal that comes first in the paper's order; a refused event changes nothing
 
@@ -764,7 +764,7 @@ pub pairs-counted-are-the-gain : (n : ℕ) (fs : List Flow) (ws : List ℕ) → 
 pairs-counted-are-the-gain = passes-gain
 
 -- CALLS ONE AFTER THE OTHER (`Called`) are known by their contracts alone. These can be met for every list of calls, from every start that is accepted and
--- from every replay whose n and storage are
+-- from every replay or `tally` whose n and storage are
 pub every-list-can-be-called : (n : ℕ) (lent : Storage) → startOf n lent .answer .refusal ≡ 0 → (calls : List Call) → (s : State) × Called n lent calls s
 every-list-can-be-called = called-of
 
