@@ -3,7 +3,7 @@
 use mathlib.Core.Path.{_≡_, refl, sym, ap, _∙_, subst}
 use mathlib.Core.Bool.{true, false}
 use mathlib.Core.List.{List, [], _∷_, _++_, map}
-use mathlib.Core.Logic.{_⊎_, _↔_, _≢_}
+use mathlib.Core.Logic.{_⊎_, _↔_, _≢_, ⊎-elim}
 use mathlib.Mathlib.Logic.Relation.{ReflTransGenᴰ}
 use Prim.Native.Nat.{ℕ, suc, _+_, _*_, _/_, _%_, _^_, _≤_, _<_}
 use native.Mathlib.Omega.{arith}
@@ -15,14 +15,14 @@ use Rattle.refusal.specs.Order.{firstOf, IsFirst}
 use Rattle.leb128.specs.declared.Encoded.{Encoded}
 use Rattle.leb128.specs.Answer.{refused, wrote, unwritten, writingOf}
 use Rattle.leb128.specs.Number.{IsBytes, overwrite, writeAt}
-use Rattle.leb128.specs.Refusals.{IsTruncated, IsOverlong, truncated-refused as number-truncated-refused, overlong-refused as number-overlong-refused, refused-truncated as number-refused-truncated, refused-overlong as number-refused-overlong}
+use Rattle.leb128.specs.Refusals.{IsTruncated, IsOverlong, truncated-refused as number-truncated-refused, overlong-refused as number-overlong-refused, refused-truncated as number-refused-truncated, refused-overlong as number-refused-overlong, reading-cases}
 use Rattle.leb128.specs.Output.{write-fits, write-short}
 use Rattle.leb128.specs.Laws.{writing-injective}
 use Rattle.eventlog.specs.declared.Event.{Event as LogEvent}
 use Rattle.eventlog.specs.declared.Event.the-variants.{Enable, Disable}
 use Rattle.eventlog.specs.Answer.{fieldsOf, read, unread}
 use Rattle.eventlog.specs.Log.{bytesOf, logOf, recordAt, headAt, eventsFrom, logAt, writeLog}
-use Rattle.eventlog.specs.Refusals.{SomeField, IsUnknown, truncated-refused, overlong-refused, unknown-refused, refused-truncated, refused-overlong, refused-unknown}
+use Rattle.eventlog.specs.Refusals.{SomeField, IsUnknown, truncated-refused, overlong-refused, unknown-refused, refused-truncated, refused-overlong, refused-unknown, record-cases}
 use Rattle.eventlog.specs.Records.{AreEvents}
 use Rattle.eventlog.specs.Laws.{IsEvent, written-read, accepted-written}
 use Rattle.eventlog.specs.LogLaws.{complete, IsLog, log-read, log-accepted, log-written-read, log-accepted-written}
@@ -48,7 +48,7 @@ use Rattle.tracker.specs.declared.Answered.{Answered}
 use Rattle.tracker.specs.Replies.{answerOf, answer-injective, leftBy}
 use Rattle.tracker.specs.Unjudged.{applyEnableOf, applyDisableOf}
 use Rattle.tracker.specs.UnjudgedLaws.{passes-propagate, passes-gain, apply-enable-refusal, apply-enable-refused, apply-disable-refusal, apply-disable-refused, apply-enable, apply-disable}
-use Rattle.claims.specs.Running.{StartDoes, start-does, EnableDoes, enable-does, DisableDoes, disable-does, AddDoes, add-does, Called, called-is, called-of, called-after-replay, called-after-tally}
+use Rattle.claims.specs.Running.{StartDoes, start-does, EnableDoes, enable-does, DisableDoes, disable-does, AddDoes, add-does, Called, called-is, called-of, called-on, replay-left, tally-left}
 use Rattle.outcome.specs.Outcome.{Outcome, startOrder, enableLater, disableLater, startOf, propagated, gainOf, enableOf, disableOf, addOf, Call, ask, add, orderOf, outcomeOf, eventsOf, after, configurationOf}
 use Rattle.outcome.specs.Refusals.{start-refusal, start-refused, call-refusal, call-refused}
 use Rattle.outcome.specs.Table.{StartAnswers, start-answers, EnableAnswers, enable-answers, DisableAnswers, disable-answers, AddAnswers, add-answers}
@@ -362,6 +362,12 @@ pub reading-n-answers-by-the-table : (s : List ℕ) → ((headAt s ≡ refused 1
 reading-n-answers-by-the-table s =
     ((number-refused-truncated 32 s 0, number-truncated-refused 32 s 0), (number-refused-overlong 32 s 0, number-overlong-refused 32 s 0))
 
+pub reading-answers-no-other-refusal : (s : List ℕ) (at : ℕ) → (recordAt s at .refusal ≤ 3) × (headAt s .refusal ≤ 2)
+reading-answers-no-other-refusal s at = (
+  ⊎-elim (λ e. omega (arith, e)) (⊎-elim (λ h. omega (arith, h .0)) (⊎-elim (λ h. omega (arith, h .0)) (λ h. omega (arith, h .0)))) (record-cases s at),
+  ⊎-elim (λ e. omega (arith, e)) (⊎-elim (λ h. omega (arith, h .0)) (λ h. omega (arith, h .0))) (reading-cases 32 s 0),
+)
+
 pub writing-answers-10-exactly-if-it-does-not-fit : (out : List ℕ) (at : ℕ) (bs : List ℕ)
     → (length out < at + length bs → writeAt out at bs ≡ record { answer = unwritten 10; output = out })
     × (at + length bs ≤ length out → writeAt out at bs ≡ record { answer = wrote (at + length bs); output = overwrite out at bs })
@@ -595,8 +601,9 @@ pub the-buffer-of-tally-suffices : (bs : List ℕ) (lent : Storage) (out : List 
     → tallyOf bs lent out .answer ≡ wrote (length (textOf bs lent))
 the-buffer-of-tally-suffices = tally-suffices
 
--- THE PROGRAM prints the text of its input in a new tracker's storage (`printedOf`, which the contract in tally/src/main.rt cites): all that is claimed of
--- texts, with `newStorage` for the lent lists. That takes every n from 1 to 256, so the program answers 9 for n alone
+-- THE PROGRAM makes the text of its input in a new tracker's storage (`printedOf`, which the contract of `report_of` in tally/src/main.rt cites): all that
+-- is claimed of texts, with `newStorage` for the lent lists. That takes every n from 1 to 256, so 9 is answered for n alone. That `main` hands over what was
+-- read, and writes the text, are the three lines around that call, which no contract speaks of
 pub the-program-takes-every-n : (n : ℕ) → IsSized n newStorage ↔ ((1 ≤ n) × (n ≤ 256))
 the-program-takes-every-n = new-storage-sized
 
@@ -698,17 +705,15 @@ pub the-numbers-tell-answers-apart :
 the-numbers-tell-answers-apart =
     (tags-injective, size-injective, legal-injective, ranked-injective, containers-injective, ending-injective, writing-injective)
 
--- so of a replay that runs: it is starting and the calls of its records, or it changes nothing
+-- so of a replay that runs: it is starting and the calls of the events that its bytes hold and that join, or it changes nothing
 pub what-replay-does : (bs : List ℕ) (lent : Storage) (r : Replayed) (tags policies counts : List ℕ) → replayBy r tags policies counts ≡ replayOf bs lent
     → ((k : ℕ) → containersIn bs lent .refusal ≡ suc k
     → replayBy r tags policies counts ≡ record { refusal = suc k; byte = 0; events = 0; gain = 0; state = record { header = record { containers = 0; count = 0; greatest = 0 }; storage = lent } })
-    × (IsBytes bs → containersIn bs lent .refusal ≡ 0 → Replays bs (headAt bs .value) lent (replayBy r tags policies counts) × (r .events ≡ length (doneOf bs)))
+    × (IsBytes bs → containersIn bs lent .refusal ≡ 0 → (w : Replays bs (headAt bs .value) lent (replayBy r tags policies counts)) × (w .done ≡ doneOf bs))
 what-replay-does bs lent r tags policies counts e = (
   λ k z. e ∙ replay-not-begun bs lent k z,
-  λ are b. (
-    subst (Replays bs (headAt bs .value) lent) (sym e) (replay-does bs lent are b),
-    ap (λ (x : Replay). x .events) e ∙ replay-does bs lent are b .events ∙ ap length (replay-done bs lent are b),
-  ),
+  λ are b.
+      subst (λ (x : Replay). (w : Replays bs (headAt bs .value) lent x) × (w .done ≡ doneOf bs)) (sym e) (replay-does bs lent are b, replay-done bs lent are b),
 )
 
 -- and of `tally` that runs: its text, written whole or not at all, and the tracker as the run leaves it
@@ -763,18 +768,24 @@ pub pairs-counted-are-the-gain : (n : ℕ) (fs : List Flow) (ws : List ℕ) → 
     → pairsAdded n fs ws ≡ gainOf n ws (propagated n fs ws)
 pairs-counted-are-the-gain = passes-gain
 
--- CALLS ONE AFTER THE OTHER (`Called`) are known by their contracts alone. These can be met for every list of calls, from every start that is accepted and
--- from every replay or `tally` whose n and storage are
+-- CALLS ONE AFTER THE OTHER (`Called`) are known by their contracts alone. These can be met for every list of calls from every start that is accepted; by
+-- every replay, and by every `tally` with its text; and then by every list of calls that goes on
 pub every-list-can-be-called : (n : ℕ) (lent : Storage) → startOf n lent .answer .refusal ≡ 0 → (calls : List Call) → (s : State) × Called n lent calls s
 every-list-can-be-called = called-of
 
-pub every-list-can-go-on-after-tally : (bs : List ℕ) (lent : Storage) → IsBytes bs → containersIn bs lent .refusal ≡ 0 → length bs ≤ 16384 → (reply : Encoded) (calls : List Call)
-    → (s : State) × Called (headAt bs .value) lent (map callOf (doneOf bs) ++ calls) s
-every-list-can-go-on-after-tally = called-after-tally
+pub every-replay-can-be-made : (bs : List ℕ) (lent : Storage) → IsBytes bs
+    → (r : Replayed)
+    × (replayBy r (replayOf bs lent .state .storage .tags) (replayOf bs lent .state .storage .policies) (replayOf bs lent .state .storage .policyCounts) ≡ replayOf bs lent)
+every-replay-can-be-made = replay-left
 
-pub every-list-can-go-on-after-a-replay : (bs : List ℕ) (lent : Storage) → IsBytes bs → containersIn bs lent .refusal ≡ 0 → (calls : List Call)
-    → (s : State) × Called (headAt bs .value) lent (map callOf (doneOf bs) ++ calls) s
-every-list-can-go-on-after-a-replay = called-after-replay
+pub every-tally-can-be-made : (bs : List ℕ) (lent : Storage) (out : List ℕ)
+    → (r : Tallied) × (writingOf (r .reply) ≡ tallyOf bs lent out .answer)
+    × (stateOf (r .header) (leftOf bs lent .storage .tags) (leftOf bs lent .storage .policies) (leftOf bs lent .storage .policyCounts) (r .flows) ≡ leftOf bs lent)
+every-tally-can-be-made = tally-left
+
+pub calls-can-go-on : (n : ℕ) (lent : Storage) (done : List Call) (s : State) → Called n lent done s
+    → (calls : List Call) → (t : State) × Called n lent (done ++ calls) t
+calls-can-go-on = called-on
 
 -- DEMANDS 2 AND 3 of calls made one after the other, which left the state `s`; the list may begin with a replay, or with the
 -- tracker that `tally` left, complete or refused partway, and go on

@@ -2,8 +2,9 @@
 -- claimed of the outcome is true of the call. Gathered here for each call, and for calls one after the other. Assumes nothing.
 use mathlib.Core.Path.{_≡_, refl, sym, ap, ap₂, _∙_, subst}
 use mathlib.Core.List.{List, [], _∷_, _++_, map, append-assoc, append-nil}
-use mathlib.Core.Logic.{_↔_, _≢_}
+use mathlib.Core.Logic.{_↔_, _≢_, by-cases}
 use Prim.Native.Nat.{ℕ, zero, suc, _+_, _≤_}
+use native.Mathlib.Decide.{decLt}
 use native.Mathlib.Omega.{arith}
 use lib.ListN.{length}
 use Rattle.model.specs.declared.Flow.{Flow}
@@ -18,7 +19,10 @@ use Rattle.tracker.specs.declared.Reply.{Reply}
 use Rattle.tracker.specs.declared.Reply.the-variants.{Accepted, NoSuchContainer, SelfFlow, StaleNumber, TableFull, NotEnabled, BadSize, PolicyFull, InvalidState}
 use Rattle.tracker.specs.Replies.{answerOf, givenBack, leftBy}
 use Rattle.leb128.specs.declared.Encoded.{Encoded}
-use Rattle.leb128.specs.Number.{IsBytes}
+use Rattle.leb128.specs.declared.Encoded.the-variants.{Next, ShortOutput}
+use Rattle.leb128.specs.Answer.{writingOf}
+use Rattle.leb128.specs.Number.{IsBytes, Written, writeAt}
+use Rattle.leb128.specs.Output.{write-fits, write-short}
 use Rattle.eventlog.specs.Log.{headAt}
 use Rattle.eventlog.specs.declared.Event.{Event as LogEvent}
 use Rattle.replay.specs.declared.Ending.{Ending}
@@ -30,7 +34,7 @@ use Rattle.replay.specs.Laws.{replay-does, replay-starts}
 use Rattle.replay.specs.Joins.{doneOf, replay-done}
 use Rattle.replay.specs.Numbers.{replay-refusal}
 use Rattle.report.specs.declared.Tallied.{Tallied}
-use Rattle.tallytext.specs.Text.{leftOf}
+use Rattle.tallytext.specs.Text.{textOf, leftOf, tallyOf}
 use Rattle.tallytext.specs.Laws.{left-of-replay}
 use Rattle.outcome.specs.Outcome.{Outcome, noHeader, startOf, gainOf, enableOf, disableOf, addOf, Call, ask, add, outcomeOf, after}
 use Rattle.outcome.specs.Refusals.{start-refused, call-refused, call-unaccepted}
@@ -259,7 +263,7 @@ ending-of (suc (suc (suc (suc (suc (suc (suc (suc zero)))))))) l = (EndNotEnable
 ending-of (suc (suc (suc (suc (suc (suc (suc (suc (suc zero))))))))) l = (EndBadSize, refl)
 ending-of (suc (suc (suc (suc (suc (suc (suc (suc (suc (suc k)))))))))) l = absurd (omega (arith, l))
 
-replay-left : (bs : List ℕ) (lent : Storage) → IsBytes bs
+pub replay-left : (bs : List ℕ) (lent : Storage) → IsBytes bs
     → (r : Replayed)
     × (replayBy r (replayOf bs lent .state .storage .tags) (replayOf bs lent .state .storage .policies) (replayOf bs lent .state .storage .policyCounts) ≡ replayOf bs lent)
 replay-left bs lent are =
@@ -269,8 +273,14 @@ replay-left bs lent are =
       λ i. record { refusal = e .1 i; byte = x .byte; events = x .events; gain = x .gain; state = x .state },
     )
 
+-- writing is answered in one of two ways
+written-by : (out : List ℕ) (at : ℕ) (bs : List ℕ) → (reply : Encoded) × (writingOf reply ≡ writeAt out at bs .answer)
+written-by out at bs =
+    by-cases (decLt (length out) (at + length bs)) (λ l. (ShortOutput, ap (λ (w : Written). w .answer) (sym (write-short out at bs l))))
+    (λ l. (Next (at + length bs), ap (λ (w : Written). w .answer) (sym (write-fits out at bs (omega (arith, l))))))
+
 -- calls go on after calls
-called-on : (n : ℕ) (lent : Storage) (done : List Call) (s : State) → Called n lent done s → (cs : List Call) → (s : State) × Called n lent (done ++ cs) s
+pub called-on : (n : ℕ) (lent : Storage) (done : List Call) (s : State) → Called n lent done s → (cs : List Call) → (s : State) × Called n lent (done ++ cs) s
 called-on n lent done s x [] = (s, subst (λ (ds : List Call). Called n lent ds s) (sym (append-nil done)) x)
 called-on n lent done s x (c ∷ cs) =
     let w = call-left s c in
@@ -288,17 +298,10 @@ called-of n lent a cs =
     o : Outcome
     o = startOf n lent
 
--- and from every replay whose n and storage are accepted
-pub called-after-replay : (bs : List ℕ) (lent : Storage) → IsBytes bs → containersIn bs lent .refusal ≡ 0 → (cs : List Call)
-    → (s : State) × Called (headAt bs .value) lent (map callOf (doneOf bs) ++ cs) s
-called-after-replay bs lent are b cs =
-    let w = replay-left bs lent are in called-on (headAt bs .value) lent (map callOf (doneOf bs)) _ (replayed bs are b refl (w .0) _ _ _ (w .1)) cs
-
--- and from every `tally` whose n and storage are, whatever becomes of its text
-pub called-after-tally : (bs : List ℕ) (lent : Storage) → IsBytes bs → containersIn bs lent .refusal ≡ 0 → length bs ≤ 16384 → (reply : Encoded) (cs : List Call)
-    → (s : State) × Called (headAt bs .value) lent (map callOf (doneOf bs) ++ cs) s
-called-after-tally bs lent are b short reply cs =
+-- what a `tally` writes and leaves is given back by some answer
+pub tally-left : (bs : List ℕ) (lent : Storage) (out : List ℕ)
+    → (r : Tallied) × (writingOf (r .reply) ≡ tallyOf bs lent out .answer)
+    × (stateOf (r .header) (leftOf bs lent .storage .tags) (leftOf bs lent .storage .policies) (leftOf bs lent .storage .policyCounts) (r .flows) ≡ leftOf bs lent)
+tally-left bs lent out =
     let x = leftOf bs lent in
-    called-on (headAt bs .value) lent (map callOf (doneOf bs)) _
-    (tallied bs are b refl short (record { reply = reply; header = x .header; flows = x .storage .flows }) (x .storage .tags) (x .storage .policies) (x .storage .policyCounts) refl)
-    cs
+    let w = written-by out 0 (textOf bs lent) in (record { reply = w .0; header = x .header; flows = x .storage .flows }, w .1, refl)

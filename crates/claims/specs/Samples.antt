@@ -5,6 +5,7 @@ use mathlib.Core.Bool.{Bool, true, false}
 use mathlib.Core.List.{List, [], _∷_, _++_, map}
 use Prim.Native.Nat.{ℕ, _+_, _*_}
 use lib.ListN.{replicate}
+use Rattle.leb128.specs.Answer.{Reading, accepted, refused}
 use Rattle.leb128.specs.Number.{groups, formOf, valueOf, continued, judged, decodeAt}
 use Rattle.eventlog.specs.Answer.{eventOf}
 use Rattle.eventlog.specs.Log.{formsOf, fieldsAt, recordAt, eventsWithin}
@@ -25,10 +26,10 @@ use Rattle.tallytext.specs.Text.{those, spaced, lineOf, linesOf, eventsLine, re
 
 -- a row, with what must come of it
 pub data Sample : Type 0 where
-  -- a number and its bytes
-  number : ℕ → List ℕ → Sample
+  -- a number and its bytes, and what reading these answers
+  number : ℕ → List ℕ → Reading → Sample
   -- bytes that stand for no number, and the refusal
-  bytes : List ℕ → ℕ → Sample
+  bytes : List ℕ → Reading → Sample
   -- n and events; each event's answer (a refusal and a gain), and each container's tags, rising
   events : ℕ → List Event → List (ℕ × ℕ) → List (List ℕ) → Sample
   -- n and events; a container and the policy sets that it is given; each call's answer, the container's tags, and the permission's refusal and answer
@@ -62,8 +63,8 @@ adds c ps = map (λ (p : List ℕ). add c (setOf p)) ps
 
 -- a row with what the definitions give
 unfoldable pub computed : Sample → Sample
-computed (number v bs) = number (decodeAt 32 bs 0 .value) (formOf v)
-computed (bytes bs k) = bytes bs (decodeAt 32 bs 0 .refusal)
+computed (number v bs r) = number v (formOf v) (decodeAt 32 bs 0)
+computed (bytes bs r) = bytes bs (decodeAt 32 bs 0)
 computed (events n es replies sets) =
     let begun = startOf n (lent n) .state in
     let tags = after begun (map ask es) .storage .tags in events n es (answers begun (map ask es)) (tabulate n (λ c. those 0 256 (has (setAt tags c))))
@@ -112,13 +113,13 @@ samples =
     ∷ events 3 (enable (flow 1 0 1) ∷ enable (flow 2 0 1) ∷ disable 1 ∷ enable (flow 3 2 0) ∷ []) (gained 1 ∷ gained 0 ∷ gained 0 ∷ gained 2 ∷ [])
     ((0 ∷ 2 ∷ []) ∷ (0 ∷ 1 ∷ 2 ∷ []) ∷ (2 ∷ []) ∷ [])
     -- 127 is byte 127; 128 is 128 1; 4,294,967,295 is 255 255 255 255 15
-    ∷ number 127 (127 ∷ [])
-    ∷ number 128 (128 ∷ 1 ∷ [])
-    ∷ number 4294967295 (255 ∷ 255 ∷ 255 ∷ 255 ∷ 15 ∷ [])
+    ∷ number 127 (127 ∷ []) (accepted 127 1)
+    ∷ number 128 (128 ∷ 1 ∷ []) (accepted 128 2)
+    ∷ number 4294967295 (255 ∷ 255 ∷ 255 ∷ 255 ∷ 15 ∷ []) (accepted 4294967295 5)
     -- 128 0 and 255 255 255 255 16 give 2; 128 alone gives 1
-    ∷ bytes (128 ∷ 0 ∷ []) 2
-    ∷ bytes (255 ∷ 255 ∷ 255 ∷ 255 ∷ 16 ∷ []) 2
-    ∷ bytes (128 ∷ []) 1
+    ∷ bytes (128 ∷ 0 ∷ []) (refused 2)
+    ∷ bytes (255 ∷ 255 ∷ 255 ∷ 255 ∷ 16 ∷ []) (refused 2)
+    ∷ bytes (128 ∷ []) (refused 1)
     -- container 2 with {0, 1, 2}: permitted by {0, 1, 2}, not by {0, 2} and {1, 2}
     ∷ policies 3 chain 2 ((0 ∷ 1 ∷ 2 ∷ []) ∷ []) (gained 1 ∷ gained 2 ∷ gained 0 ∷ []) (0 ∷ 1 ∷ 2 ∷ []) (0, true)
     ∷ policies 3 chain 2 ((0 ∷ 2 ∷ []) ∷ (1 ∷ 2 ∷ []) ∷ []) (gained 1 ∷ gained 2 ∷ gained 0 ∷ gained 0 ∷ []) (0 ∷ 1 ∷ 2 ∷ []) (0, false)

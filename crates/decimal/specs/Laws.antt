@@ -96,10 +96,6 @@ decimal-value = by-digits (λ v. numberOf (decimalOf v) ≡ v) last more
     more : (v : ℕ) → 10 ≤ v → numberOf (decimalOf (v / 10)) ≡ v / 10 → numberOf (decimalOf v) ≡ v
     more v h ih = ap numberOf (decimal-more v h) ∙ number-more (decimalOf (v / 10)) (48 + v % 10) ∙ omega arith
 
--- two numbers with the same digits are the same
-pub decimal-injective : (v w : ℕ) → decimalOf v ≡ decimalOf w → v ≡ w
-decimal-injective v w e = sym (decimal-value v) ∙ ap numberOf e ∙ decimal-value w
-
 -- each element is one of `0` to `9`
 abbrev AreDigits : List ℕ → Type 0
 AreDigits ds = (k : ℕ) → k < length ds → (48 ≤ getD ds k 0) × (getD ds k 0 ≤ 57)

@@ -9,7 +9,7 @@ use native.Mathlib.Omega.{arith}
 use lib.ListN.{length}
 use borrow.Table.Steps.{cases}
 use borrow.Author.Tests.{le-leb, lt-leb}
-use Rattle.refusal.specs.Order.{firstOf, IsFirst, first-number, by-rows}
+use Rattle.refusal.specs.Order.{firstOf, by-rows}
 use Rattle.truth.specs.Truth.{or-either, left-or, right-or}
 use Rattle.model.specs.Model.{_∈_}
 use Rattle.model.specs.Reach.{tabulate}
@@ -119,10 +119,6 @@ module _ {A : Type 0} (none value : A) where
   unfolding asked
   asked-untold r k e = rw e refl
 
-  -- a refusal is answered exactly if it is the first of the order
-  asked-refusal : (order : List (Bool × ℕ)) (k : ℕ) → (asked (firstOf order 0) none value .refusal ≡ suc k) ↔ IsFirst order (suc k)
-  asked-refusal order k = rw (asked-number (firstOf order 0)) (first-number order k)
-
   -- the value of an answer is the one asked for
   value-told : (r : ℕ) → asked r none value .refusal ≡ 0 → asked r none value .value ≡ value
   value-told r e = ap (λ (a : Asked A). a .value) (asked-told r (sym (asked-number r) ∙ e))
@@ -135,21 +131,6 @@ module _ (s : State) (c : ℕ) where
   -- the number that is decided on
   abbrev number : ℕ
   number = firstOf (questionOrder s c) 0
-
-  -- the question for the tag set answers REFUSAL k exactly if its condition holds and none before it in the order does
-  pub tags-refusal : (k : ℕ) → (tagsOf s c .refusal ≡ suc k) ↔ IsFirst (questionOrder s c) (suc k)
-  unfolding tagsOf
-  tags-refusal = asked-refusal emptySet (setAt (s .storage .tags) c) (questionOrder s c)
-
-  -- the same of the question for the size
-  pub size-refusal : (k : ℕ) → (sizeAsked s c .refusal ≡ suc k) ↔ IsFirst (questionOrder s c) (suc k)
-  unfolding sizeAsked
-  size-refusal = asked-refusal 0 (sizeOf (setAt (s .storage .tags) c)) (questionOrder s c)
-
-  -- and of the question whether it may be sent
-  pub legal-refusal : (k : ℕ) → (legalOf s c .refusal ≡ suc k) ↔ IsFirst (questionOrder s c) (suc k)
-  unfolding legalOf
-  legal-refusal = asked-refusal false (isLegal s c) (questionOrder s c)
 
   -- A QUESTION THAT IS NOT REFUSED tells the container's tag set
   pub tags-told : tagsOf s c .refusal ≡ 0 → tagsOf s c .value ≡ setAt (s .storage .tags) c
