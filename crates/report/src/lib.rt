@@ -2,7 +2,6 @@
 // The private functions take positions up to some millions, far past the end of every text (264,256 bytes): so no sum of a position wraps.
 use leb128::Encoded;
 use model::Flow;
-use replay::Ending;
 use state::Header;
 use tagset::TagSet;
 ghost use mathlib.Core.Path.{_≡_};
@@ -13,7 +12,6 @@ ghost use Rattle.leb128.specs.Answer.{writingOf};
 ghost use Rattle.leb128.specs.Number.{writeAt};
 ghost use Rattle.decimal.specs.Decimal.{decimalOf};
 ghost use Rattle.state.specs.State.{storageOf, stateOf};
-ghost use Rattle.replay.specs.Replies.{endingOf};
 ghost use Rattle.tallytext.specs.Text.{space, newline, spaced, tagsRising, lineOf, linesOf, lastLine, reportOf, leftOf, tallyOf};
 ghost use Rattle.report.specs.Put.{Put};
 
@@ -49,7 +47,7 @@ pub fn tally(
     let header = run.header;
     let after = run.flows;
     let ending = run.ending;
-    let number = number_of(ending);
+    let number = replay::ending_number(ending);
     let n = header.containers;
     let reply = write_report(out, tags, n, number, run.byte, run.events, run.gain);
     Tallied {
@@ -209,22 +207,4 @@ fn write_report(
     }
     put_report(out, tags, &order, m, refusal, byte, events, gain);
     Encoded::Next(length)
-}
-
-// The number of an ending, 0 where the log is complete.
-fn number_of(ending: Ending) -> u32
-    ensures { λ r. ⌜ r ≡ endingOf ending ⌝ }
-{
-    match ending {
-        Ending::Complete => 0,
-        Ending::Truncated => 1,
-        Ending::Overlong => 2,
-        Ending::UnknownKind => 3,
-        Ending::NoSuchContainer => 4,
-        Ending::SelfFlow => 5,
-        Ending::StaleNumber => 6,
-        Ending::TableFull => 7,
-        Ending::NotEnabled => 8,
-        Ending::BadSize => 9,
-    }
 }

@@ -55,28 +55,12 @@ pub fn replay_log(
 
 // Why a replay ended, and at which byte.
 fn ending_text(ending: Ending, byte: usize) {
-    let number = ending_number(ending);
+    let number = replay::ending_number(ending) as u64;
     if number == 0 {
         text(b": complete");
     } else {
         refused(number);
         named(b" at ", byte as u64);
-    }
-}
-
-// The paper's number of an ending, 0 where the log is complete.
-fn ending_number(ending: Ending) -> u64 {
-    match ending {
-        Ending::Complete => 0,
-        Ending::Truncated => 1,
-        Ending::Overlong => 2,
-        Ending::UnknownKind => 3,
-        Ending::NoSuchContainer => 4,
-        Ending::SelfFlow => 5,
-        Ending::StaleNumber => 6,
-        Ending::TableFull => 7,
-        Ending::NotEnabled => 8,
-        Ending::BadSize => 9,
     }
 }
 

@@ -52,7 +52,7 @@ fn run(s: &[u8], tags: &mut [u64], policies: &mut [u64], counts: &mut [u8])
         let end = sampleline::find(s, at, 10);
         let line = &s[at..end];
         text(line);
-        let command = command_of(line);
+        let command = sampleline::command::command_of(line);
         let a = sampleline::numbers_of(line);
         room = room_after(room, command, a);
         now = lent(room, command, a, now, tags, policies, counts);
@@ -61,21 +61,28 @@ fn run(s: &[u8], tags: &mut [u64], policies: &mut [u64], counts: &mut [u8])
     }
 }
 
-// The command of a line.
-fn command_of(line: &[u8]) -> Command {
-    sampleline::command::named_by(sampleline::byte_at(line, 0), sampleline::byte_at(line, 1))
-}
-
 // `room T P C`: from now on so many words of tags, words of policy sets and counts are lent.
 fn room_after(room: Room, command: Command, a: Numbers) -> Room {
     match command {
-        Command::Room => Room {
-            tags: a.get(0) as usize,
-            policies: a.get(1) as usize,
-            counts: a.get(2) as usize,
-        },
+        Command::Room => {
+            let asked = Room {
+                tags: a.get(0) as usize,
+                policies: a.get(1) as usize,
+                counts: a.get(2) as usize,
+            };
+            if is_there(asked) {
+                return asked;
+            }
+            text(b": more than there is");
+            room
+        }
         _ => room,
     }
+}
+
+// Whether there is so much of each list.
+fn is_there(room: Room) -> bool {
+    (room.tags <= 1028) & (room.policies <= 4112) & (room.counts <= 257)
 }
 
 // Does what a line says with this much of each list.
@@ -126,6 +133,7 @@ fn step(
         return now;
     }
     if count < first {
+        text(b": too few numbers");
         return now;
     }
     change(
@@ -191,7 +199,7 @@ fn poke(command: Command, a: Numbers, tags: &mut [u64], policies: &mut [u64], co
     }
 }
 
-// The commands that ask the tracker.
+// The commands that ask the tracker; `now` asks for the header.
 fn ask(
     command: Command,
     a: Numbers,
@@ -228,6 +236,7 @@ fn read(command: Command, a: Numbers, s: &[u8]) {
         Command::Pair => sets::pair(a),
         Command::Under => sets::under(a),
         Command::Over => sets::over(a),
+        Command::Unknown => text(b": no such word"),
         _ => {}
     }
 }

@@ -49,8 +49,8 @@ returns c =
 replay-requires : tie.Need-replay-requires
 replay-requires c κs = search needs
 
-number-of-requires : tie.Need-number-of-requires
-number-of-requires c κs = search needs
+ending-number-requires : tie.Need-ending-number-requires
+ending-number-requires c κs = search needs
 
 -- where the input was run
 module _ (c : tie.After-replay) where
@@ -105,7 +105,7 @@ returns-2 c =
     let done = c .before .before in
     let number = done .before .before .before in
     let x = number .before .before .before .before .before .before .before .before .before in
-    let same = text x (number .number-of .ensures) in
+    let same = text x (number .ending-number .ensures) in
     let w = wrote (start x .args .out .now) same (done .write-report2 .ensures) in
     (w .0, (w .1, left x))
 
@@ -118,7 +118,7 @@ tally-spec =
     same-length-2
     returns
     replay-requires
-    number-of-requires
+    ending-number-requires
     write-report-requires-2
     same-length-3
     same-length-4
