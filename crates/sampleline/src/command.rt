@@ -1,7 +1,10 @@
-// The commands of the script, found by the first two letters of their words and told by the whole.
+// The commands of the script.
 use crate::byte_at;
 use crate::find;
+ghost use Prim.Native.Nat.{_≤_};
+ghost use lib.ListN.{length};
 
+// Each with its word, in the order of the words; then a line that is no command, and one whose word there is not.
 pub enum Command {
     Add,
     Begin,
@@ -20,7 +23,6 @@ pub enum Command {
     Legal,
     List,
     Log,
-    Note,
     Now,
     Number,
     Over,
@@ -36,47 +38,40 @@ pub enum Command {
     Start,
     Tally,
     Under,
-    Unknown,
     View,
     Word,
     Write,
+    Note,
+    Unknown,
 }
 
-// The command of a line. One that is empty or begins with # is a note; another word is unknown.
+// The command of a line. One that is empty or begins with # is a note.
 pub fn command_of(line: &[u8]) -> Command {
-    let second = byte_at(line, 1);
     match byte_at(line, 0) {
         0 => Command::Note,
         b'#' => Command::Note,
-        b'a' => told(line, b"add", Command::Add),
-        b'b' => with_b(line, second),
-        b'c' => told(line, b"count", Command::Count),
-        b'd' => with_d(line, second),
-        b'e' => with_e(line, second),
-        b'f' => with_f(line, second),
-        b'h' => told(line, b"header", Command::Header),
-        b'i' => told(line, b"item", Command::Item),
-        b'j' => told(line, b"judge", Command::Judge),
-        b'l' => with_l(line, second),
-        b'n' => with_n(line, second),
-        b'o' => told(line, b"over", Command::Over),
-        b'p' => with_p(line, second),
-        b'r' => with_r(line, second),
-        b's' => with_s(line, second),
-        b't' => told(line, b"tally", Command::Tally),
-        b'u' => told(line, b"under", Command::Under),
-        b'v' => told(line, b"view", Command::View),
-        b'w' => with_w(line, second),
-        _ => Command::Unknown,
+        _ => placed(place_of(
+            line,
+            b"add begin bytes count decode disable enable exec fill flow header item judge large legal list log now number over pair policy put rank replay room set short size start tally under view word write",
+        )),
     }
 }
 
-// This command where the line has its word.
-fn told(line: &[u8], word: &[u8], command: Command) -> Command {
-    if has_word(line, word) {
-        return command;
+// The place of a line's word among these, or how many there are.
+fn place_of(line: &[u8], words: &[u8]) -> usize
+    requires { ⌜ length (now words) ≤ 512 ⌝ }
+{
+    let mut place: usize = 0;
+    let mut at: usize = 0;
+    while at < words.len() {
+        let end = find(words, at, 32);
+        if has_word(line, &words[at..end]) {
+            return place;
+        }
+        place += 1;
+        at = end + 1;
     }
-    Command::Unknown
+    place
 }
 
 // Whether the first word of a line is this one.
@@ -94,88 +89,44 @@ fn has_word(line: &[u8], word: &[u8]) -> bool {
     true
 }
 
-// Words with b.
-fn with_b(line: &[u8], second: u8) -> Command {
-    match second {
-        b'e' => told(line, b"begin", Command::Begin),
-        _ => told(line, b"bytes", Command::Bytes),
-    }
-}
-
-// Words with d.
-fn with_d(line: &[u8], second: u8) -> Command {
-    match second {
-        b'e' => told(line, b"decode", Command::Decode),
-        _ => told(line, b"disable", Command::Disable),
-    }
-}
-
-// Words with e.
-fn with_e(line: &[u8], second: u8) -> Command {
-    match second {
-        b'n' => told(line, b"enable", Command::Enable),
-        _ => told(line, b"exec", Command::Exec),
-    }
-}
-
-// Words with f.
-fn with_f(line: &[u8], second: u8) -> Command {
-    match second {
-        b'i' => told(line, b"fill", Command::Fill),
-        _ => told(line, b"flow", Command::Flow),
-    }
-}
-
-// Words with l.
-fn with_l(line: &[u8], second: u8) -> Command {
-    match second {
-        b'a' => told(line, b"large", Command::Large),
-        b'e' => told(line, b"legal", Command::Legal),
-        b'i' => told(line, b"list", Command::List),
-        _ => told(line, b"log", Command::Log),
-    }
-}
-
-// Words with n.
-fn with_n(line: &[u8], second: u8) -> Command {
-    match second {
-        b'o' => told(line, b"now", Command::Now),
-        _ => told(line, b"number", Command::Number),
-    }
-}
-
-// Words with p.
-fn with_p(line: &[u8], second: u8) -> Command {
-    match second {
-        b'a' => told(line, b"pair", Command::Pair),
-        b'o' => told(line, b"policy", Command::Policy),
-        _ => told(line, b"put", Command::Put),
-    }
-}
-
-// Words with r.
-fn with_r(line: &[u8], second: u8) -> Command {
-    match second {
-        b'a' => told(line, b"rank", Command::Rank),
-        b'e' => told(line, b"replay", Command::Replay),
-        _ => told(line, b"room", Command::Room),
-    }
-}
-
-// Words with s.
-fn with_s(line: &[u8], second: u8) -> Command {
-    match second {
-        b'e' => told(line, b"set", Command::Set),
-        b'h' => told(line, b"short", Command::Short),
-        b'i' => told(line, b"size", Command::Size),
-        _ => told(line, b"start", Command::Start),
-    }
-}
-
-// Words with w.
-fn with_w(line: &[u8], second: u8) -> Command {
-    match second {
-        b'o' => told(line, b"word", Command::Word),
-        _ => told(line, b"write", Command::Write),
+// The command at a place.
+fn placed(place: usize) -> Command {
+    match place {
+        0 => Command::Add,
+        1 => Command::Begin,
+        2 => Command::Bytes,
+        3 => Command::Count,
+        4 => Command::Decode,
+        5 => Command::Disable,
+        6 => Command::Enable,
+        7 => Command::Exec,
+        8 => Command::Fill,
+        9 => Command::Flow,
+        10 => Command::Header,
+        11 => Command::Item,
+        12 => Command::Judge,
+        13 => Command::Large,
+        14 => Command::Legal,
+        15 => Command::List,
+        16 => Command::Log,
+        17 => Command::Now,
+        18 => Command::Number,
+        19 => Command::Over,
+        20 => Command::Pair,
+        21 => Command::Policy,
+        22 => Command::Put,
+        23 => Command::Rank,
+        24 => Command::Replay,
+        25 => Command::Room,
+        26 => Command::Set,
+        27 => Command::Short,
+        28 => Command::Size,
+        29 => Command::Start,
+        30 => Command::Tally,
+        31 => Command::Under,
+        32 => Command::View,
+        33 => Command::Word,
+        34 => Command::Write,
+        _ => Command::Unknown,
     }
 }
