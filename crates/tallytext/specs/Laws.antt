@@ -1,6 +1,6 @@
 -- What the text of `tally` is, line by line, that a buffer of 264,256 bytes always holds it, and what is written where it does not fit. Assumes nothing.
 use mathlib.Core.Path.{_≡_, refl, sym, ap, ap₂, _∙_}
-use mathlib.Core.Bool.{Bool, true, not, _&&_, false≢true}
+use mathlib.Core.Bool.{Bool, true, not, _&&_, cond, false≢true}
 use mathlib.Core.List.{List, [], _∷_, _++_, List·Memᴰ·head, List·Memᴰ·tail, List·Memᴰ·not-nil, List·Memᴰ·cases-cons, map}
 use mathlib.Core.Logic.{_≢_, _↔_, ⊎-elim, by-cases}
 use Prim.Native.Nat.{ℕ, zero, suc, _+_, _-_, _≤_, _<_}
@@ -66,7 +66,7 @@ module _ (bs : List ℕ) (lent : Storage) where
   -- 'longer input gives only `refused 10 at 16384`'
   pub text-of-long-input : 16384 < length bs → textOf bs lent ≡ refusedLine 10 16384
   unfolding textOf
-  text-of-long-input h = rw (lt-ltb 16384 (length bs) h) refl
+  text-of-long-input h = ap (λ (long : Bool). cond long (refusedLine 10 16384) (replayText (replayOf bs lent))) (lt-ltb 16384 (length bs) h)
 
   -- and leaves the tracker's storage as it was
   pub left-of-long-input : 16384 < length bs → leftOf bs lent ≡ record { header = noHeader; storage = lent }
