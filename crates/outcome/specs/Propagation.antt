@@ -1,5 +1,5 @@
 -- The sets after an event in the paper's words: a container has a tag exactly if a container had it that this one is reached from. Assumes nothing.
-use mathlib.Core.Path.{_≡_, ap, _∙_}
+use mathlib.Core.Path.{_≡_, sym, ap, _∙_}
 use mathlib.Core.Bool.{Bool, true, false, _&&_, _||_, cond}
 use mathlib.Core.Logic.{_↔_}
 use mathlib.Core.List.{List}
@@ -32,11 +32,14 @@ union-over-has (suc n) p f t = go (p n) (union-over-has n p f t)
 pub propagated-has : (n : ℕ) (fs : List Flow) (ws : List ℕ) (b t : ℕ) → b < n
     → (has (setAt (propagated n fs ws) b) t ≡ true) ↔ ((a : ℕ) × (a < n) × (reaches n (edgesOf fs) a b ≡ true) × (has (setAt ws a) t ≡ true))
 unfolding propagated
-propagated-has n fs ws b t l =
-    rw (set-written n (λ b. unionOver n (λ a. reaches n (edgesOf fs) a b) (setAt ws)) ws b t l, union-over-has n (λ a. reaches n (edgesOf fs) a b) (setAt ws) t) (fore, back)
+propagated-has n fs ws b t l = (λ e. fore (sym same ∙ e), λ r. same ∙ back r)
   where
     test : ℕ → Bool
     test a = reaches n (edgesOf fs) a b && has (setAt ws a) t
+
+    same : has (setAt (propagated n fs ws) b) t ≡ anyBelow n test
+    same =
+        set-written n (λ b. unionOver n (λ a. reaches n (edgesOf fs) a b) (setAt ws)) ws b t l ∙ union-over-has n (λ a. reaches n (edgesOf fs) a b) (setAt ws) t
 
     fore : anyBelow n test ≡ true → (a : ℕ) × (a < n) × (reaches n (edgesOf fs) a b ≡ true) × (has (setAt ws a) t ≡ true)
     fore e =

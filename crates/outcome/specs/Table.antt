@@ -1,7 +1,7 @@
 -- The table of refusals: which number each call answers, in the paper's words and order. Each condition of an order is what its row says, and the
 -- rows leave no case out. Assumes nothing.
-use mathlib.Core.Path.{_≡_, refl, sym, _∙_}
-use mathlib.Core.Bool.{true, false, false≢true}
+use mathlib.Core.Path.{_≡_, refl, sym, ap, _∙_}
+use mathlib.Core.Bool.{Bool, true, false, cond, false≢true}
 use mathlib.Core.List.{List}
 use mathlib.Core.Logic.{_⊎_, _↔_, _≢_, ⊎-elim, by-cases}
 use Prim.Native.Nat.{ℕ, _≤_, _<_}
@@ -88,6 +88,14 @@ start-answers n lent k =
 
 -- ENABLING
 
+-- where all conditions are met no refusal is
+enables-number : (s : State) (f : Flow) → Enables s f → firstOf (enableOrder s f) 0 ≡ 0
+unfolding enableOrder enableLater
+enables-number s f e =
+    usable-first s (enableLater s f) (e .usable)
+    ∙ rw (lt-leb (s .header .containers) (f .from) (e .proper .0), lt-leb (s .header .containers) (f .to) (e .proper .1), ne-eqb (f .from) (f .to) (e .proper .2), lt-leb (f .number) (s .header .greatest) (e .above))
+    (ap (λ (full : Bool). cond full 7 0) (lt-leb 512 (s .header .count) (e .room)))
+
 -- a row's number is the one answered
 enable-number : (s : State) (f : Flow) {k : ℕ} → EnableAnswers s f k → firstOf (enableOrder s f) 0 ≡ k
 unfolding enableOrder enableLater
@@ -107,10 +115,7 @@ enable-number s f (table-full u p g r) =
     usable-first s (enableLater s f) u
     ∙ rw (lt-leb (s .header .containers) (f .from) (p .0), lt-leb (s .header .containers) (f .to) (p .1), ne-eqb (f .from) (f .to) (p .2), lt-leb (f .number) (s .header .greatest) g, le-leb 512 (s .header .count) r)
     refl
-enable-number s f (accepted e) =
-    usable-first s (enableLater s f) (e .usable)
-    ∙ rw (lt-leb (s .header .containers) (f .from) (e .proper .0), lt-leb (s .header .containers) (f .to) (e .proper .1), ne-eqb (f .from) (f .to) (e .proper .2), lt-leb (f .number) (s .header .greatest) (e .above), lt-leb 512 (s .header .count) (e .room))
-    refl
+enable-number s f (accepted e) = enables-number s f e
 
 -- some row applies to a usable state: by the ends, the number, the room
 enable-row : (s : State) (f : Flow) → Usable s → (k : ℕ) × EnableAnswers s f k

@@ -25,7 +25,7 @@ returns-3 c = let a = c .before .before .before .before .before .before .before 
 
 returns-4 : tie.Need-returns-4
 unfolding flowValid
-returns-4 c = simp (eq-eqb _ _ (c .if4 .taken), and-false)
+returns-4 c = let a = c .before .before .before .before .before .before .before .before .before .before .before .before .args in simp (eq-eqb (a .f .from) (a .f .to) (omega arith), and-false)
 
 cast-load-set : tie.Need-cast-load-set
 cast-load-set c = search needs
