@@ -47,7 +47,7 @@ use denote.Triple.Statement.{Contract, Triple}
 use denote.Triple.Call.{calls-at}
 use denote.Triple.Clauses.{ensured, lasts}
 use denote.Triple.Table.{entered, cited}
-use denote.Triple.Walked.{says, needs, Stays, stay-none-slice, walkOf, Walks, ends-at, walked, goes-none-slice, walk-meets}
+use denote.Triple.Walked.{says, Stays, stay-none-slice, walkOf, Walks, ends-at, walked, goes-none-slice, walk-meets}
 use Rattle.model.specs.declared.Flow.{Flow}
 use Rattle.model.proofs.Flow as T
 use Rattle.model.proofs.Flow.Laws as T′
