@@ -43,11 +43,11 @@ use Rattle.state.specs.IsValid.{IsSized, sized, IsValid, valid, Usable}
 use Rattle.tagstore.specs.Store.{totalOf}
 use Rattle.propagation.specs.Pass.{pass, adds, passed, passesOf, passCount, setsAfter, pairsAdded}
 use Rattle.propagation.specs.Exact.{pass-has, adds-iff, count-is, passes-some, passes-add, passes-last}
-use Rattle.tracker.specs.declared.Reply.{Reply}
-use Rattle.tracker.specs.declared.Answered.{Answered}
-use Rattle.tracker.specs.Replies.{answerOf, answer-injective, leftBy}
-use Rattle.tracker.specs.Unjudged.{applyEnableOf, applyDisableOf}
-use Rattle.tracker.specs.UnjudgedLaws.{passes-propagate, passes-gain, apply-enable-refusal, apply-enable-refused, apply-disable-refusal, apply-disable-refused, apply-enable, apply-disable}
+use Rattle.calls.specs.declared.Reply.{Reply}
+use Rattle.calls.specs.declared.Answered.{Answered}
+use Rattle.calls.specs.Replies.{answerOf, answer-injective, leftBy}
+use Rattle.calls.specs.Unjudged.{applyEnableOf, applyDisableOf}
+use Rattle.calls.specs.UnjudgedLaws.{passes-propagate, passes-gain, apply-enable-refusal, apply-enable-refused, apply-disable-refusal, apply-disable-refused, apply-enable, apply-disable}
 use Rattle.claims.specs.Running.{StartDoes, start-does, EnableDoes, enable-does, DisableDoes, disable-does, AddDoes, add-does, Called, called-is, called-of, called-on, replay-left, tally-left}
 use Rattle.outcome.specs.Outcome.{Outcome, startOrder, enableLater, disableLater, startOf, propagated, gainOf, enableOf, disableOf, addOf, Call, ask, add, orderOf, outcomeOf, eventsOf, after, configurationOf}
 use Rattle.outcome.specs.Refusals.{start-refusal, start-refused, call-refusal, call-refused}
@@ -55,6 +55,7 @@ use Rattle.outcome.specs.Table.{StartAnswers, start-answers, EnableAnswers, ena
 use Rattle.outcome.specs.Policies.{PolicyAdded}
 use Rattle.outcome.specs.Stays.{settled}
 use Rattle.outcome.specs.Steps.{start-makes-usable, call-leaves-usable, call-keeps, usable-answers, Sentence, propagated-sentence, enable-sentence, disable-sentence, IsStarted, start-is-started, FlowsChanged, enable-flows, disable-flows, add-so}
+use Rattle.front.specs.Front.{lentFront, frontOf, outcomeBeyond, replayBeyond, start-front, call-front, tags-front, size-front, legal-front, rank-front, replay-front}
 use Rattle.outcome.specs.Effects.{start-fits, call-fits, start-gains-nothing, SameBeyond, start-beyond, call-beyond, list-beyond, disable-tags, add-tags, gain-counted, enable-gain, disable-gain, add-gain}
 use Rattle.outcome.specs.Follows.{Follows, configuration-has, accepted-joins}
 use Rattle.question.specs.declared.Tags.{Tags}
@@ -96,7 +97,7 @@ use Rattle.claims.specs.Permission.{takes, givenTo, SameSets, Known, tak
 -- SomeField, IsUnknown (eventlog/specs/Refusals.antt); IsEvent, IsRecord, IsLog, complete (Laws.antt, LogLaws.antt), AreEvents (Records.antt);
 -- ContainersAnswers, AllAccepted, gainsOf, Completes, Stops, Replays (replay/specs/Laws.antt); joining, doneOf (Joins.antt); lineWith, IsLine
 -- (tallytext/specs/Words.antt, Laws.antt); takes, givenTo, SameSets, Known (Permission.antt); StartDoes, EventDoes, EnableDoes, DisableDoes, AddDoes,
--- Called (Running.antt); Standing, Accepted, Occurs, MayEnable, Within (model/specs/Standing.antt, Histories.antt, Closure.antt).
+-- Called (Running.antt); lentFront, frontOf, outcomeBeyond, replayBeyond (front/specs/Front.antt); Standing, Accepted, Occurs, MayEnable, Within (model/specs/Standing.antt, Histories.antt, Closure.antt).
 
 -- DEMAND 1: the work, or the refusal that comes first in the paper's order; a refused event changes nothing
 
@@ -176,6 +177,24 @@ start-keeps-64-bits = start-fits
 
 pub call-keeps-64-bits : (s : State) (c : Call) → Fit64 (s .storage .tags) → Fit64 (outcomeOf s c .state .storage .tags)
 call-keeps-64-bits = call-fits
+
+-- RECORDS PAST THE 512TH of the flow table are neither judged nor touched: every outcome is that of the first 512 alone, with the others behind it. (A table of fewer
+-- than 512 is refused, 9: `start-answers-by-the-table` and the others.)
+pub start-goes-by-512-records : (n : ℕ) (lent : Storage) → startOf n lent ≡ outcomeBeyond (drop 512 (lent .flows)) (startOf n (lentFront lent))
+start-goes-by-512-records = start-front
+
+pub a-call-goes-by-512-records : (s : State) (c : Call) → outcomeOf s c ≡ outcomeBeyond (drop 512 (s .storage .flows)) (outcomeOf (frontOf s) c)
+a-call-goes-by-512-records = call-front
+
+pub questions-go-by-512-records : (s : State) (c : ℕ)
+    → (tagsOf s c ≡ tagsOf (frontOf s) c) × (sizeAsked s c ≡ sizeAsked (frontOf s) c) × (legalOf s c ≡ legalOf (frontOf s) c)
+questions-go-by-512-records s c = (sym (tags-front s c), sym (size-front s c), sym (legal-front s c))
+
+pub the-ranking-goes-by-512-records : (s : State) (out : List ℕ) → rankOf s out ≡ rankOf (frontOf s) out
+the-ranking-goes-by-512-records s out = sym (rank-front s out)
+
+pub a-replay-goes-by-512-records : (bs : List ℕ) (lent : Storage) → replayOf bs lent ≡ replayBeyond (drop 512 (lent .flows)) (replayOf bs (lentFront lent))
+a-replay-goes-by-512-records = replay-front
 
 -- WHAT AN ACCEPTED CALL LEAVES: a start, n containers with their own tags alone; an enable, its flow last and its number the greatest; a disable, the
 -- other flows; adding a policy set, that set behind those that the container has. Tag sets after events are the matter of demand 2
@@ -629,7 +648,7 @@ the-tags-printed-are-flows bs lent are b c t l =
 pub the-events-printed-are-those-done : (bs : List ℕ) (lent : Storage) → IsBytes bs → containersIn bs lent .refusal ≡ 0 → replayOf bs lent .events ≡ length (doneOf bs)
 the-events-printed-are-those-done bs lent are b = replay-does bs lent are b .events ∙ ap length (replay-done bs lent are b)
 
--- THE RUNNING CALLS (src/lib.rt of each crate). The contract of each is one equation: what the call gives back and leaves in the lent lists (`leftBy`) makes up the
+-- THE RUNNING CALLS (tracker/src/lib.rt). The contract of each is one equation: what the call gives back and leaves in the lent lists (`leftBy`) makes up the
 -- outcome of its definition, for every number and every content and length of storage. It is the hypothesis here; the reader compares it with the line
 -- `ensures` there. So what is claimed above of the definitions is true of the calls, one by one:
 
@@ -638,28 +657,28 @@ pub the-numbers-tell-replies-apart : (q r : Reply) → answerOf q ≡ answerOf r
 the-numbers-tell-replies-apart = answer-injective
 
 -- `start`: StartDoes gathers what is claimed of it (demand 1)
-pub what-start-does : (n : ℕ) (lent : Storage) (r : Answered) (tags policies counts : List ℕ) → leftBy r tags policies counts ≡ startOf n lent
-    → StartDoes n lent (leftBy r tags policies counts)
-what-start-does n lent r tags policies counts e = subst (StartDoes n lent) (sym e) (start-does n lent)
+pub what-start-does : (n : ℕ) (lent : Storage) (r : Answered) (tags policies counts : List ℕ) (flows : List Flow) → leftBy r tags policies counts flows ≡ startOf n lent
+    → StartDoes n lent (leftBy r tags policies counts flows)
+what-start-does n lent r tags policies counts flows e = subst (StartDoes n lent) (sym e) (start-does n lent)
 
 -- `enable`: EnableDoes (demands 1 and 2)
-pub what-enable-does : (s : State) (f : Flow) (r : Answered) (tags : List ℕ)
-    → leftBy r tags (s .storage .policies) (s .storage .policyCounts) ≡ enableOf s f
-    → EnableDoes s f (leftBy r tags (s .storage .policies) (s .storage .policyCounts))
-what-enable-does s f r tags e = subst (EnableDoes s f) (sym e) (enable-does s f)
+pub what-enable-does : (s : State) (f : Flow) (r : Answered) (tags : List ℕ) (flows : List Flow)
+    → leftBy r tags (s .storage .policies) (s .storage .policyCounts) flows ≡ enableOf s f
+    → EnableDoes s f (leftBy r tags (s .storage .policies) (s .storage .policyCounts) flows)
+what-enable-does s f r tags flows e = subst (EnableDoes s f) (sym e) (enable-does s f)
 
 -- `disable`, which is lent the tag sets to read alone: DisableDoes (demands 1 and 2)
-pub what-disable-does : (s : State) (k : ℕ) (r : Answered)
-    → leftBy r (s .storage .tags) (s .storage .policies) (s .storage .policyCounts) ≡ disableOf s k
-    → DisableDoes s k (leftBy r (s .storage .tags) (s .storage .policies) (s .storage .policyCounts))
-what-disable-does s k r e = subst (DisableDoes s k) (sym e) (disable-does s k)
+pub what-disable-does : (s : State) (k : ℕ) (r : Answered) (flows : List Flow)
+    → leftBy r (s .storage .tags) (s .storage .policies) (s .storage .policyCounts) flows ≡ disableOf s k
+    → DisableDoes s k (leftBy r (s .storage .tags) (s .storage .policies) (s .storage .policyCounts) flows)
+what-disable-does s k r flows e = subst (DisableDoes s k) (sym e) (disable-does s k)
 
 -- `add_policy`, which is lent the tag sets to read alone: AddDoes (demand 1)
-pub what-add-policy-does : (s : State) (c : ℕ) (p : TagSet) (r : Answered) (policies counts : List ℕ) → leftBy r (s .storage .tags) policies counts ≡ addOf s c p
-    → AddDoes s c p (leftBy r (s .storage .tags) policies counts)
+pub what-add-policy-does : (s : State) (c : ℕ) (p : TagSet) (r : Answered) (policies counts : List ℕ) → leftBy r (s .storage .tags) policies counts (s .storage .flows) ≡ addOf s c p
+    → AddDoes s c p (leftBy r (s .storage .tags) policies counts (s .storage .flows))
 what-add-policy-does s c p r policies counts e = subst (AddDoes s c p) (sym e) (add-does s c p)
 
--- `apply_enable` and `apply_disable`, which judge no state. On every state they answer the first refusal that stands after 9 and 12 in the event's order,
+-- `apply_enable` and `apply_disable` (calls/src/lib.rt), on a table by value, which judge no state. On every state they answer the first refusal that stands after 9 and 12 in the event's order,
 -- and a refused event changes nothing
 pub apply-enable-answers-the-first : (s : State) (f : Flow) (k : ℕ) → (applyEnableOf s f .answer .refusal ≡ suc k) ↔ IsFirst (enableLater s f) (suc k)
 apply-enable-answers-the-first = apply-enable-refusal
@@ -682,15 +701,15 @@ apply-enable-is-enable = apply-enable
 pub apply-disable-is-disable : (s : State) → Usable s → (k : ℕ) → applyDisableOf s k ≡ disableOf s k
 apply-disable-is-disable = apply-disable
 
-pub what-apply-enable-does : (s : State) → Usable s → (f : Flow) → Fit64 (s .storage .tags) → (r : Answered) (tags : List ℕ)
-    → leftBy r tags (s .storage .policies) (s .storage .policyCounts) ≡ applyEnableOf s f
-    → EnableDoes s f (leftBy r tags (s .storage .policies) (s .storage .policyCounts))
-what-apply-enable-does s u f w r tags e = what-enable-does s f r tags (e ∙ apply-enable s u f w)
+pub what-apply-enable-does : (s : State) → Usable s → (f : Flow) → Fit64 (s .storage .tags) → (r : Answered) (tags : List ℕ) (flows : List Flow)
+    → leftBy r tags (s .storage .policies) (s .storage .policyCounts) flows ≡ applyEnableOf s f
+    → EnableDoes s f (leftBy r tags (s .storage .policies) (s .storage .policyCounts) flows)
+what-apply-enable-does s u f w r tags flows e = what-enable-does s f r tags flows (e ∙ apply-enable s u f w)
 
-pub what-apply-disable-does : (s : State) → Usable s → (k : ℕ) (r : Answered)
-    → leftBy r (s .storage .tags) (s .storage .policies) (s .storage .policyCounts) ≡ applyDisableOf s k
-    → DisableDoes s k (leftBy r (s .storage .tags) (s .storage .policies) (s .storage .policyCounts))
-what-apply-disable-does s u k r e = what-disable-does s k r (e ∙ apply-disable s u k)
+pub what-apply-disable-does : (s : State) → Usable s → (k : ℕ) (r : Answered) (flows : List Flow)
+    → leftBy r (s .storage .tags) (s .storage .policies) (s .storage .policyCounts) flows ≡ applyDisableOf s k
+    → DisableDoes s k (leftBy r (s .storage .tags) (s .storage .policies) (s .storage .policyCounts) flows)
+what-apply-disable-does s u k r flows e = what-disable-does s k r flows (e ∙ apply-disable s u k)
 
 -- `tags_of`, `size_of`, `is_legal`, `rank`, `read_containers`, `replay`: a contract gives the numbers of the answer (and the output, the lent lists) by the
 -- definition; these determine the answer
@@ -706,17 +725,17 @@ the-numbers-tell-answers-apart =
     (tags-injective, size-injective, legal-injective, ranked-injective, containers-injective, ending-injective, writing-injective)
 
 -- so of a replay that runs: it is starting and the calls of the events that its bytes hold and that join, or it changes nothing
-pub what-replay-does : (bs : List ℕ) (lent : Storage) (r : Replayed) (tags policies counts : List ℕ) → replayBy r tags policies counts ≡ replayOf bs lent
+pub what-replay-does : (bs : List ℕ) (lent : Storage) (r : Replayed) (tags policies counts : List ℕ) (flows : List Flow) → replayBy r tags policies counts flows ≡ replayOf bs lent
     → ((k : ℕ) → containersIn bs lent .refusal ≡ suc k
-    → replayBy r tags policies counts ≡ record { refusal = suc k; byte = 0; events = 0; gain = 0; state = record { header = record { containers = 0; count = 0; greatest = 0 }; storage = lent } })
-    × (IsBytes bs → containersIn bs lent .refusal ≡ 0 → (w : Replays bs (headAt bs .value) lent (replayBy r tags policies counts)) × (w .done ≡ doneOf bs))
-what-replay-does bs lent r tags policies counts e = (
+    → replayBy r tags policies counts flows ≡ record { refusal = suc k; byte = 0; events = 0; gain = 0; state = record { header = record { containers = 0; count = 0; greatest = 0 }; storage = lent } })
+    × (IsBytes bs → containersIn bs lent .refusal ≡ 0 → (w : Replays bs (headAt bs .value) lent (replayBy r tags policies counts flows)) × (w .done ≡ doneOf bs))
+what-replay-does bs lent r tags policies counts flows e = (
   λ k z. e ∙ replay-not-begun bs lent k z,
   λ are b.
       subst (λ (x : Replay). (w : Replays bs (headAt bs .value) lent x) × (w .done ≡ doneOf bs)) (sym e) (replay-does bs lent are b, replay-done bs lent are b),
 )
 
--- and of `tally` that runs: its text, written whole or not at all, and the tracker as the run leaves it
+-- and of `tally` that runs (report/src/lib.rt), in lent lists and a table of its own, of zeros: its text, written whole or not at all, and the tracker as the run leaves it
 pub what-tally-does : (bs : List ℕ) (lent : Storage) (out left : List ℕ) (r : Tallied) (tags policies counts : List ℕ)
     → writingOf (r .reply) ≡ tallyOf bs lent out .answer → left ≡ tallyOf bs lent out .output
     → stateOf (r .header) tags policies counts (r .flows) ≡ leftOf bs lent
@@ -775,7 +794,7 @@ every-list-can-be-called = called-of
 
 pub every-replay-can-be-made : (bs : List ℕ) (lent : Storage) → IsBytes bs
     → (r : Replayed)
-    × (replayBy r (replayOf bs lent .state .storage .tags) (replayOf bs lent .state .storage .policies) (replayOf bs lent .state .storage .policyCounts) ≡ replayOf bs lent)
+    × (replayBy r (replayOf bs lent .state .storage .tags) (replayOf bs lent .state .storage .policies) (replayOf bs lent .state .storage .policyCounts) (replayOf bs lent .state .storage .flows) ≡ replayOf bs lent)
 every-replay-can-be-made = replay-left
 
 pub every-tally-can-be-made : (bs : List ℕ) (lent : Storage) (out : List ℕ)
@@ -801,9 +820,9 @@ module _ (n : ℕ) (lent : Storage) (calls : List Call) (s : State) (made : Call
   called-writes-nothing-beyond = rw (sym same-state) (tracker-writes-nothing-beyond n lent (called-is made .0) calls)
 
   -- the next call is refused neither for its storage nor for its state
-  pub called-answers-no-9-or-12 : (c : Call) (r : Answered) (tags policies counts : List ℕ) → leftBy r tags policies counts ≡ outcomeOf s c
+  pub called-answers-no-9-or-12 : (c : Call) (r : Answered) (tags policies counts : List ℕ) (flows : List Flow) → leftBy r tags policies counts flows ≡ outcomeOf s c
       → (answerOf (r .reply) .refusal ≢ 9) × (answerOf (r .reply) .refusal ≢ 12)
-  called-answers-no-9-or-12 c r tags policies counts q =
+  called-answers-no-9-or-12 c r tags policies counts flows q =
       subst (λ (o : Outcome). (o .answer .refusal ≢ 9) × (o .answer .refusal ≢ 12)) (sym q) (usable-answers s c (called-follows .usable))
 
   pub called-sets-are-flows : (c t : ℕ) → c < n → (has (setAt (s .storage .tags) c) t ≡ true) ↔ Flows n (accepted n (eventsOf calls)) t c
@@ -831,9 +850,9 @@ module _ (n : ℕ) (lent : Storage) (calls : List Call) (s : State) (made : Call
   called-the-ranking-is-written = rw (sym same-state) (rank-is-answered n lent (called-is made .0) calls)
 
   -- the next policy set is accepted exactly if the container takes it
-  pub called-add-accepted-exactly-if-taken : (c : ℕ) (p : TagSet) (r : Answered) (tags policies counts : List ℕ) → leftBy r tags policies counts ≡ outcomeOf s (add c p)
+  pub called-add-accepted-exactly-if-taken : (c : ℕ) (p : TagSet) (r : Answered) (tags policies counts : List ℕ) (flows : List Flow) → leftBy r tags policies counts flows ≡ outcomeOf s (add c p)
       → (answerOf (r .reply) .refusal ≡ 0) ↔ (takes n c (givenTo n c [] calls) c p ≡ true)
-  called-add-accepted-exactly-if-taken c p r tags policies counts q =
+  called-add-accepted-exactly-if-taken c p r tags policies counts flows q =
       subst (λ (o : Outcome). (o .answer .refusal ≡ 0) ↔ (takes n c (givenTo n c [] calls) c p ≡ true)) (sym q)
       (subst (λ (s : State). (outcomeOf s (add c p) .answer .refusal ≡ 0) ↔ (takes n c (givenTo n c [] calls) c p ≡ true)) same-state
       (add-accepted-exactly-if-taken n lent (called-is made .0) calls c p))
@@ -849,9 +868,9 @@ module _ (n : ℕ) (lent : Storage) (calls : List Call) (s : State) (made : Call
       same-state (legal-exactly-if-given n lent (called-is made .0) calls c l))
 
   -- the next call that runs, whatever its event, is accepted exactly if the event joins
-  pub called-accepted-exactly-if-it-joins : (e : Event) (r : Answered) (tags policies counts : List ℕ) → leftBy r tags policies counts ≡ outcomeOf s (ask e)
+  pub called-accepted-exactly-if-it-joins : (e : Event) (r : Answered) (tags policies counts : List ℕ) (flows : List Flow) → leftBy r tags policies counts flows ≡ outcomeOf s (ask e)
       → (answerOf (r .reply) .refusal ≡ 0) ↔ (joins n (accepted n (eventsOf calls)) e ≡ true)
-  called-accepted-exactly-if-it-joins e r tags policies counts q =
+  called-accepted-exactly-if-it-joins e r tags policies counts flows q =
       subst (λ (o : Outcome). (o .answer .refusal ≡ 0) ↔ (joins n (accepted n (eventsOf calls)) e ≡ true)) (sym q)
       (subst (λ (s : State). (outcomeOf s (ask e) .answer .refusal ≡ 0) ↔ (joins n (accepted n (eventsOf calls)) e ≡ true)) same-state
       (accepted-exactly-if-it-joins n lent (called-is made .0) calls e))

@@ -14,10 +14,10 @@ use Rattle.state.specs.State.{Storage, State, stateOf, flowsOf}
 use Rattle.state.specs.Layout.{Fit64}
 use Rattle.state.specs.IsValid.{IsValid, Usable}
 use Rattle.tagstore.specs.Store.{totalOf}
-use Rattle.tracker.specs.declared.Answered.{Answered}
-use Rattle.tracker.specs.declared.Reply.{Reply}
-use Rattle.tracker.specs.declared.Reply.the-variants.{Accepted, NoSuchContainer, SelfFlow, StaleNumber, TableFull, NotEnabled, BadSize, PolicyFull, InvalidState}
-use Rattle.tracker.specs.Replies.{answerOf, givenBack, leftBy}
+use Rattle.calls.specs.declared.Answered.{Answered}
+use Rattle.calls.specs.declared.Reply.{Reply}
+use Rattle.calls.specs.declared.Reply.the-variants.{Accepted, NoSuchContainer, SelfFlow, StaleNumber, TableFull, NotEnabled, BadSize, PolicyFull, InvalidState}
+use Rattle.calls.specs.Replies.{answerOf, givenBack, leftBy}
 use Rattle.leb128.specs.declared.Encoded.{Encoded}
 use Rattle.leb128.specs.declared.Encoded.the-variants.{Next, ShortOutput}
 use Rattle.leb128.specs.Answer.{writingOf}
@@ -160,17 +160,17 @@ add-does s c p =
 -- that the call before gave back and the lists that it left, refused or not. What is known of each call is its contract's equation alone. A replay counts as
 -- starting and the calls of its events: of those that its bytes hold, the first that join (`doneOf`), found from the bytes alone
 pub data Called (n : ℕ) (lent : Storage) : List Call → State → Type 0 where
-  begun : (r : Answered) (tags policies counts : List ℕ) → leftBy r tags policies counts ≡ startOf n lent → answerOf (r .reply) .refusal ≡ 0
-      → Called n lent [] (leftBy r tags policies counts .state)
+  begun : (r : Answered) (tags policies counts : List ℕ) (flows : List Flow) → leftBy r tags policies counts flows ≡ startOf n lent → answerOf (r .reply) .refusal ≡ 0
+      → Called n lent [] (leftBy r tags policies counts flows .state)
   replayed : (bs : List ℕ) (are : IsBytes bs) (accepts : containersIn bs lent .refusal ≡ 0) → headAt bs .value ≡ n
-      → (r : Replayed) (tags policies counts : List ℕ) → replayBy r tags policies counts ≡ replayOf bs lent
-      → Called n lent (map callOf (doneOf bs)) (replayBy r tags policies counts .state)
+      → (r : Replayed) (tags policies counts : List ℕ) (flows : List Flow) → replayBy r tags policies counts flows ≡ replayOf bs lent
+      → Called n lent (map callOf (doneOf bs)) (replayBy r tags policies counts flows .state)
   tallied : (bs : List ℕ) (are : IsBytes bs) (accepts : containersIn bs lent .refusal ≡ 0) → headAt bs .value ≡ n → length bs ≤ 16384
       → (r : Tallied) (tags policies counts : List ℕ) → stateOf (r .header) tags policies counts (r .flows) ≡ leftOf bs lent
       → Called n lent (map callOf (doneOf bs)) (stateOf (r .header) tags policies counts (r .flows))
-  called : {cs : List Call} {s : State} → Called n lent cs s → (c : Call) (r : Answered) (tags policies counts : List ℕ)
-      → leftBy r tags policies counts ≡ outcomeOf s c
-      → Called n lent (cs ++ (c ∷ [])) (leftBy r tags policies counts .state)
+  called : {cs : List Call} {s : State} → Called n lent cs s → (c : Call) (r : Answered) (tags policies counts : List ℕ) (flows : List Flow)
+      → leftBy r tags policies counts flows ≡ outcomeOf s c
+      → Called n lent (cs ++ (c ∷ [])) (leftBy r tags policies counts flows .state)
 
 -- one call more at the end of a list
 after-last : (cs : List Call) (s : State) (c : Call) → after s (cs ++ (c ∷ [])) ≡ outcomeOf (after s cs) c .state
@@ -191,12 +191,12 @@ replayed-is bs lent are accepts e = (
 pub called-is : {n : ℕ} {lent : Storage} {cs : List Call} {s : State} → Called n lent cs s
     → (startOf n lent .answer .refusal ≡ 0) × (s ≡ after (startOf n lent .state) cs)
 unfolding after
-called-is (begun r tags policies counts e a) = (ap (λ (o : Outcome). o .answer .refusal) (sym e) ∙ a, ap (λ (o : Outcome). o .state) e)
-called-is {n} {lent} (replayed bs are accepts e r tags policies counts q) =
+called-is (begun r tags policies counts flows e a) = (ap (λ (o : Outcome). o .answer .refusal) (sym e) ∙ a, ap (λ (o : Outcome). o .state) e)
+called-is {n} {lent} (replayed bs are accepts e r tags policies counts flows q) =
     let w = replayed-is bs lent are accepts e in (w .0, ap (λ (x : Replay). x .state) q ∙ w .1)
 called-is {n} {lent} (tallied bs are accepts e short r tags policies counts q) =
     let w = replayed-is bs lent are accepts e in (w .0, q ∙ left-of-replay bs lent short ∙ w .1)
-called-is {n} {lent} (called {cs} {s} x c r tags policies counts e) =
+called-is {n} {lent} (called {cs} {s} x c r tags policies counts flows e) =
     let w = called-is x in
     (w .0, ap (λ (o : Outcome). o .state) e ∙ ap (λ (t : State). outcomeOf t c .state) (w .1) ∙ sym (after-last cs (startOf n lent .state) c))
 
@@ -243,11 +243,11 @@ call-reply s (ask (disable k)) = disable-reply s k (disable-answers s k (disable
 call-reply s (add c p) = add-reply s c p (add-answers s c p (addOf s c p .answer .refusal) .0 refl) (λ n. call-unaccepted s (add c p) n .1)
 
 -- the outcome of a call is left by some answer and words
-call-left : (s : State) (c : Call) → (r : Answered) × (leftBy r (outcomeOf s c .state .storage .tags) (outcomeOf s c .state .storage .policies) (outcomeOf s c .state .storage .policyCounts) ≡ outcomeOf s c)
+call-left : (s : State) (c : Call) → (r : Answered) × (leftBy r (outcomeOf s c .state .storage .tags) (outcomeOf s c .state .storage .policies) (outcomeOf s c .state .storage .policyCounts) (outcomeOf s c .state .storage .flows) ≡ outcomeOf s c)
 call-left s c =
     let o = outcomeOf s c in
     let w = call-reply s c in
-    (givenBack (w .0) (o .state .header) (o .state .storage .flows), λ i. record { answer = w .1 i; state = o .state })
+    (givenBack (w .0) (o .state .header), λ i. record { answer = w .1 i; state = o .state })
 
 -- the run of a replay is given back with some ending
 ending-of : (k : ℕ) → k ≤ 9 → (e : Ending) × (endingOf e ≡ k)
@@ -265,11 +265,11 @@ ending-of (suc (suc (suc (suc (suc (suc (suc (suc (suc (suc k)))))))))) l = absu
 
 pub replay-left : (bs : List ℕ) (lent : Storage) → IsBytes bs
     → (r : Replayed)
-    × (replayBy r (replayOf bs lent .state .storage .tags) (replayOf bs lent .state .storage .policies) (replayOf bs lent .state .storage .policyCounts) ≡ replayOf bs lent)
+    × (replayBy r (replayOf bs lent .state .storage .tags) (replayOf bs lent .state .storage .policies) (replayOf bs lent .state .storage .policyCounts) (replayOf bs lent .state .storage .flows) ≡ replayOf bs lent)
 replay-left bs lent are =
     let x = replayOf bs lent in
     let e = ending-of (x .refusal) (replay-refusal bs lent are) in (
-      record { ending = e .0; byte = x .byte; events = x .events; gain = x .gain; header = x .state .header; flows = x .state .storage .flows },
+      record { ending = e .0; byte = x .byte; events = x .events; gain = x .gain; header = x .state .header },
       λ i. record { refusal = e .1 i; byte = x .byte; events = x .events; gain = x .gain; state = x .state },
     )
 
@@ -284,15 +284,15 @@ pub called-on : (n : ℕ) (lent : Storage) (done : List Call) (s : State) → Ca
 called-on n lent done s x [] = (s, subst (λ (ds : List Call). Called n lent ds s) (sym (append-nil done)) x)
 called-on n lent done s x (c ∷ cs) =
     let w = call-left s c in
-    let y = called-on n lent (done ++ (c ∷ [])) _ (called x c (w .0) _ _ _ (w .1)) cs in
+    let y = called-on n lent (done ++ (c ∷ [])) _ (called x c (w .0) _ _ _ _ (w .1)) cs in
     (y .0, subst (λ (ds : List Call). Called n lent ds (y .0)) (append-assoc done (c ∷ []) cs) (y .1))
 
 -- so every list of calls can be called, from every start that is accepted
 pub called-of : (n : ℕ) (lent : Storage) → startOf n lent .answer .refusal ≡ 0 → (cs : List Call) → (s : State) × Called n lent cs s
 called-of n lent a cs =
     called-on n lent [] _
-    (begun (givenBack (Accepted (o .answer .gain)) (o .state .header) (o .state .storage .flows)) (o .state .storage .tags) (o .state .storage .policies)
-    (o .state .storage .policyCounts) (λ i. record { answer = record { refusal = sym a i; gain = o .answer .gain }; state = o .state }) refl)
+    (begun (givenBack (Accepted (o .answer .gain)) (o .state .header)) (o .state .storage .tags) (o .state .storage .policies)
+    (o .state .storage .policyCounts) (o .state .storage .flows) (λ i. record { answer = record { refusal = sym a i; gain = o .answer .gain }; state = o .state }) refl)
     cs
   where
     o : Outcome

@@ -1,5 +1,5 @@
--- The table of enabled flows: what one step of `find` and of `remove` does, and that appending and removing a record are what the model says
--- of the enabled flows. Assumes nothing.
+-- The table of enabled flows: what one step of `find` and of `remove` does, that appending and removing a record are what the model says
+-- of the enabled flows, and which places of a removal are to be stored. Assumes nothing.
 use mathlib.Core.Path.{_≡_, refl, sym, ap, ap₂, _∙_}
 use mathlib.Core.Bool.{Bool, true, false, cond, false≢true}
 use mathlib.Core.Logic.{_≢_, by-cases}
@@ -9,15 +9,17 @@ use native.Mathlib.Nat.{add-zero, not-suc-le-zero, le-of-suc-le-suc, suc-inj}
 use native.Mathlib.Numerals.{add-one}
 use native.Mathlib.Decide.{decLt}
 use native.Mathlib.Omega.{arith}
-use lib.Dec.{eqb, ltb, leb·suc-suc}
-use lib.ListN.{length, getD, set, take, drop, replicate, length-append, length-set, length-take, length-drop, drop-of-length-le}
-use lib.Seq.{drop-cons, getD-take, take-all, take-take, take-suc-set, set-split}
+use lib.Dec.{eqb, ltb, leb, leb·suc-suc}
+use lib.ListN.{length, getD, set, take, drop, replicate, length-append, length-set, length-take, length-drop, drop-of-length-le, List·getD-append}
+use lib.Seq.{drop-cons, getD-take, getD-drop, getD-append-add, take-all, take-take, take-suc-set, set-split}
 use borrow.Table.Steps.{cases}
-use borrow.Author.Tests.{eq-eqb, ne-eqb, eqb-true, ltb-true, lt-ltb, le-ltb, le-leb, lt-leb}
+use borrow.Author.Tests.{eq-eqb, ne-eqb, eqb-true, ltb-true, lt-ltb, le-ltb, le-leb, lt-leb, leb-false}
 use Rattle.model.specs.declared.Flow.{Flow}
 use Rattle.model.specs.Model.{isEnabled, keep, without}
 use Rattle.state.specs.State.{noFlow, withFlows}
 use Rattle.state.specs.IsValid.{Rising}
+use Rattle.flowslice.specs.Slice.{storedIn}
+use Rattle.flowslice.specs.Laws.{stored-is}
 use Rattle.flowtable.specs.declared.Found.the-variants.{At, Absent}
 use Rattle.flowtable.specs.FlowTable.{placeOf, foundIn, shifted, removedAt}
 
@@ -208,3 +210,52 @@ removed-within m place count table h =
     (λ l. let e : min m count ≡ count = omega (arith, l) in ap (λ (c : ℕ). removedAt place c table) (sym e))
     (λ l. let e : min m count ≡ m = omega (arith, l) in
     rw (e, take-all count table (omega (arith, h, l)), take-all m table h, drop-of-length-le table {i = count} (omega (arith, h, l)), drop-of-length-le table {i = m} h) refl)
+
+-- A removal stored
+
+-- the table stays as long
+pub removed-length : (place count : ℕ) (table : List Flow) → length (removedAt place count table) ≡ length table
+unfolding removedAt
+removed-length place count table =
+    cases (leb (length (take count table)) place) (λ t. rw t refl)
+    (λ f. let h : place < length (take count table) = leb-false (length (take count table)) place f in
+    rw f (simp (length-append, length-take, length-drop) (omega (arith, h, length-take count table))))
+
+-- a record before the place, and one that is not in use, is as it was
+removed-before : (place count : ℕ) (table : List Flow) (i : ℕ) → i < place → getD (removedAt place count table) i noFlow ≡ getD table i noFlow
+unfolding removedAt
+removed-before place count table i l =
+    cases (leb (length (take count table)) place) (λ t. rw t refl)
+    (λ f. let h : place < length (take count table) = leb-false (length (take count table)) place f in
+    rw f (List·getD-append (take place table) (drop (suc place) (take count table) ++ (noFlow ∷ drop count table)) noFlow i (omega (arith, l, h, length-take count table, length-take place table))
+    ∙ getD-take place table i noFlow l))
+
+removed-behind : (place count : ℕ) (table : List Flow) (i : ℕ) → count ≤ i → i < length table → getD (removedAt place count table) i noFlow ≡ getD table i noFlow
+unfolding removedAt
+removed-behind place count table i l g =
+    cases (leb (length (take count table)) place) (λ t. rw t refl)
+    (λ f. rw f (behind (leb-false (length (take count table)) place f)))
+  where
+    -- the records before those that are not in use
+    used : List Flow
+    used = take place table ++ (drop (suc place) (take count table) ++ (noFlow ∷ []))
+
+    split : shifted place count table ≡ used ++ drop count table
+    split = simp append-assoc
+
+    behind : place < length (take count table) → getD (shifted place count table) i noFlow ≡ getD table i noFlow
+    behind h =
+        let n : length used ≡ count = simp (length-append, length-take, length-drop) (omega (arith, h, l, g, length-take count table)) in
+        let j : length used + (i - count) ≡ i = omega (arith, n, l) in
+        let k : count + (i - count) ≡ i = omega (arith, l) in
+        ap (λ (fs : List Flow). getD fs i noFlow) split ∙ ap (λ (x : ℕ). getD (used ++ drop count table) x noFlow) (sym j)
+        ∙ getD-append-add used (drop count table) (i - count) noFlow ∙ getD-drop count table (i - count) noFlow ∙ ap (λ (x : ℕ). getD table x noFlow) k
+
+-- so where a record of 512 is removed, storing the records in use from its place on is enough
+pub stored-removed : (place count : ℕ) (table : List Flow) → length table ≡ 512
+    → storedIn place (min count 512) (removedAt place count table) table ≡ removedAt place count table
+stored-removed place count table t =
+    stored-is place (min count 512) (removedAt place count table) table (removedAt place count table) (removed-length place count table) (λ i l a b c. refl)
+    (λ i l n. by-cases (decLt i place) (λ h. sym (removed-before place count table i h))
+    (λ h. by-cases (decLt i count) (λ g. absurd (n (omega (arith, h)) (omega (arith, g, l, t)) (omega (arith, l, t))))
+    (λ g. sym (removed-behind place count table i (omega (arith, g)) l))))

@@ -1,12 +1,12 @@
 // Questions about a container: its tag set, the set's size, and whether it may be sent. What each answers stands in specs/Question.antt.
-// A question changes nothing, and answers for every content and length of lent storage.
+// A question changes nothing, and answers for every content and length of lent storage. The flow table is the first `length` of the records.
 use model::Flow;
 use state::Header;
 use tagset::TagSet;
 use validity::Judgement;
 ghost use mathlib.Core.Path.{_≡_};
 ghost use Prim.Native.Nat.{_+_, _*_, _≤_};
-ghost use lib.ListN.{length};
+ghost use lib.ListN.{length, take};
 ghost use Rattle.model.specs.Reach.{tabulate};
 ghost use Rattle.tagset.specs.Set.{emptySet, subsetOf};
 ghost use Rattle.state.specs.State.{stateOf, setAt};
@@ -49,12 +49,13 @@ pub fn tags_of(
     tags: &[u64],
     policies: &[u64],
     counts: &[u8],
+    length: usize,
     flows: [Flow; 512],
     container: u32,
 ) -> Tags
-    ensures { λ r. ⌜ tagsReply r ≡ tagsOf (stateOf header (now (tags .entry)) (now (policies .entry)) (now (counts .entry)) flows) container ⌝ }
+    ensures { λ r. ⌜ tagsReply r ≡ tagsOf (stateOf header (now (tags .entry)) (now (policies .entry)) (now (counts .entry)) (take length flows)) container ⌝ }
 {
-    match validity::judge(header, tags, policies, counts, flows) {
+    match validity::judge(header, tags, policies, counts, length, flows) {
         Judgement::BadSize => refused(Asking::BadSize),
         Judgement::InvalidState => refused(Asking::InvalidState),
         Judgement::Usable => {
@@ -75,12 +76,13 @@ pub fn size_of(
     tags: &[u64],
     policies: &[u64],
     counts: &[u8],
+    length: usize,
     flows: [Flow; 512],
     container: u32,
 ) -> Size
-    ensures { λ r. ⌜ sizeReply r ≡ sizeAsked (stateOf header (now (tags .entry)) (now (policies .entry)) (now (counts .entry)) flows) container ⌝ }
+    ensures { λ r. ⌜ sizeReply r ≡ sizeAsked (stateOf header (now (tags .entry)) (now (policies .entry)) (now (counts .entry)) (take length flows)) container ⌝ }
 {
-    let found = tags_of(header, tags, policies, counts, flows, container);
+    let found = tags_of(header, tags, policies, counts, length, flows, container);
     let asking = found.asking;
     let set = found.set;
     match asking {
@@ -97,12 +99,13 @@ pub fn is_legal(
     tags: &[u64],
     policies: &[u64],
     counts: &[u8],
+    length: usize,
     flows: [Flow; 512],
     container: u32,
 ) -> Legal
-    ensures { λ r. ⌜ legalReply r ≡ legalOf (stateOf header (now (tags .entry)) (now (policies .entry)) (now (counts .entry)) flows) container ⌝ }
+    ensures { λ r. ⌜ legalReply r ≡ legalOf (stateOf header (now (tags .entry)) (now (policies .entry)) (now (counts .entry)) (take length flows)) container ⌝ }
 {
-    let found = tags_of(header, tags, policies, counts, flows, container);
+    let found = tags_of(header, tags, policies, counts, length, flows, container);
     let asking = found.asking;
     let set = found.set;
     match asking {

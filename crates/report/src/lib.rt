@@ -1,4 +1,4 @@
-// The text of `tally`: an input run in a lent tracker, and its report in a lent output. What the text is stands in tallytext/specs/Text.antt.
+// The text of `tally`: an input run in a lent tracker with a flow table of its own, and its report in a lent output. What the text is stands in tallytext/specs/Text.antt.
 // The private functions take positions up to some millions, far past the end of every text (264,256 bytes): so no sum of a position wraps.
 use leb128::Encoded;
 use model::Flow;
@@ -7,11 +7,11 @@ use tagset::TagSet;
 ghost use mathlib.Core.Path.{_≡_};
 ghost use mathlib.Core.List.{[], _∷_, _++_};
 ghost use Prim.Native.Nat.{ℕ, _*_, _≤_, _<_};
-ghost use lib.ListN.{length, getD, take};
+ghost use lib.ListN.{length, getD, take, replicate};
 ghost use Rattle.leb128.specs.Answer.{writingOf};
 ghost use Rattle.leb128.specs.Number.{writeAt};
 ghost use Rattle.decimal.specs.Decimal.{decimalOf};
-ghost use Rattle.state.specs.State.{storageOf, stateOf};
+ghost use Rattle.state.specs.State.{storageOf, stateOf, noFlow};
 ghost use Rattle.tallytext.specs.Text.{space, newline, spaced, tagsRising, lineOf, linesOf, lastLine, reportOf, leftOf, tallyOf};
 ghost use Rattle.report.specs.Put.{Put};
 
@@ -22,34 +22,35 @@ pub struct Tallied {
     pub flows: [Flow; 512],
 }
 
-// Runs an input in this storage and writes its text at the start of the output, or no byte where it does not fit. Input above 16,384 bytes is not run.
+// Runs an input in this storage and a new flow table, and writes its text at the start of the output, or no byte where it does not fit. Input above 16,384 bytes is not run.
 pub fn tally(
     bytes: &[u8],
     tags: &mut [u64],
     policies: &mut [u64],
     counts: &mut [u8],
-    flows: [Flow; 512],
     out: &mut [u8],
 ) -> Tallied
-    ensures answer { λ r. ⌜ writingOf (r .reply) ≡ tallyOf (now (bytes .entry)) (storageOf (now (tags .entry)) (now (policies .entry)) (now (counts .entry)) flows) (now (out .entry)) .answer ⌝ }
-    ensures output { λ r. ⌜ now (out .exit) ≡ tallyOf (now (bytes .entry)) (storageOf (now (tags .entry)) (now (policies .entry)) (now (counts .entry)) flows) (now (out .entry)) .output ⌝ }
-    ensures state { λ r. ⌜ stateOf (r .header) (now (tags .exit)) (now (policies .exit)) (now (counts .exit)) (r .flows) ≡ leftOf (now (bytes .entry)) (storageOf (now (tags .entry)) (now (policies .entry)) (now (counts .entry)) flows) ⌝ }
+    ensures answer { λ r. ⌜ writingOf (r .reply) ≡ tallyOf (now (bytes .entry)) (storageOf (now (tags .entry)) (now (policies .entry)) (now (counts .entry)) (replicate 512 noFlow)) (now (out .entry)) .answer ⌝ }
+    ensures output { λ r. ⌜ now (out .exit) ≡ tallyOf (now (bytes .entry)) (storageOf (now (tags .entry)) (now (policies .entry)) (now (counts .entry)) (replicate 512 noFlow)) (now (out .entry)) .output ⌝ }
+    ensures state { λ r. ⌜ stateOf (r .header) (now (tags .exit)) (now (policies .exit)) (now (counts .exit)) (r .flows) ≡ leftOf (now (bytes .entry)) (storageOf (now (tags .entry)) (now (policies .entry)) (now (counts .entry)) (replicate 512 noFlow)) ⌝ }
 {
+    let none = [Flow::NONE; 512];
     if 16384 < bytes.len() {
         let reply = write_report(out, tags, 0, 10, 16384, 0, 0);
         return Tallied {
             reply: reply,
             header: Header::NONE,
-            flows: flows,
+            flows: none,
         };
     }
-    let run = replay::replay(bytes, tags, policies, counts, flows);
-    let header = run.header;
+    let run = replay::replay(bytes, tags, policies, counts, 512, none);
+    let made = run.replayed;
+    let header = made.header;
     let after = run.flows;
-    let ending = run.ending;
+    let ending = made.ending;
     let number = replay::ending_number(ending);
     let n = header.containers;
-    let reply = write_report(out, tags, n, number, run.byte, run.events, run.gain);
+    let reply = write_report(out, tags, n, number, made.byte, made.events, made.gain);
     Tallied {
         reply: reply,
         header: header,

@@ -1,4 +1,5 @@
 // Questions, the ranking, and what is stored.
+use crate::Now;
 use question::Asking;
 use question::Legal;
 use question::Size;
@@ -9,12 +10,19 @@ use sampleline::print::refused;
 use sampleline::print::spaced_tags;
 use sampleline::print::text;
 use sampleline::print::yes;
-use tracker::Answered;
 
 // `set C`: the container's set. Behind a refusal stands what is told all the same, which is nothing.
-pub fn set(a: Numbers, now: Answered, tags: &[u64], policies: &[u64], counts: &[u8]) {
+pub fn set(a: Numbers, now: Now, tags: &[u64], policies: &[u64], counts: &[u8]) {
     let flows = now.flows;
-    let told = question::tags_of(now.header, tags, policies, counts, flows, a.small(0));
+    let told = question::tags_of(
+        now.header,
+        tags,
+        policies,
+        counts,
+        now.length,
+        flows,
+        a.small(0),
+    );
     let asking = told.asking;
     match asking {
         Asking::Fine => text(b":"),
@@ -26,9 +34,17 @@ pub fn set(a: Numbers, now: Answered, tags: &[u64], policies: &[u64], counts: &[
 }
 
 // `size C`: how many tags it has.
-pub fn size(a: Numbers, now: Answered, tags: &[u64], policies: &[u64], counts: &[u8]) {
+pub fn size(a: Numbers, now: Now, tags: &[u64], policies: &[u64], counts: &[u8]) {
     let flows = now.flows;
-    match question::size_of(now.header, tags, policies, counts, flows, a.small(0)) {
+    match question::size_of(
+        now.header,
+        tags,
+        policies,
+        counts,
+        now.length,
+        flows,
+        a.small(0),
+    ) {
         Size::Is(size) => named(b": ", size as u64),
         Size::NoSuchContainer => refused(4),
         Size::BadSize => refused(9),
@@ -37,9 +53,17 @@ pub fn size(a: Numbers, now: Answered, tags: &[u64], policies: &[u64], counts: &
 }
 
 // `legal C`: whether it may be sent.
-pub fn legal(a: Numbers, now: Answered, tags: &[u64], policies: &[u64], counts: &[u8]) {
+pub fn legal(a: Numbers, now: Now, tags: &[u64], policies: &[u64], counts: &[u8]) {
     let flows = now.flows;
-    match question::is_legal(now.header, tags, policies, counts, flows, a.small(0)) {
+    match question::is_legal(
+        now.header,
+        tags,
+        policies,
+        counts,
+        now.length,
+        flows,
+        a.small(0),
+    ) {
         Legal::Is(legal) => {
             text(b": ");
             yes(legal);
@@ -51,16 +75,16 @@ pub fn legal(a: Numbers, now: Answered, tags: &[u64], policies: &[u64], counts: 
 }
 
 // `rank N`: the ranking into N places of 7, at most eight.
-pub fn rank(a: Numbers, now: Answered, tags: &[u64], policies: &[u64], counts: &[u8]) {
+pub fn rank(a: Numbers, now: Now, tags: &[u64], policies: &[u64], counts: &[u8]) {
     let n = (a.get(0) % 9) as usize;
     let mut out = [7u16; 8];
     rank_into(now, tags, policies, counts, &mut out[..n]);
 }
 
 // The ranking into these places, and what they have then.
-fn rank_into(now: Answered, tags: &[u64], policies: &[u64], counts: &[u8], out: &mut [u16]) {
+fn rank_into(now: Now, tags: &[u64], policies: &[u64], counts: &[u8], out: &mut [u16]) {
     let flows = now.flows;
-    match ranking::rank(now.header, tags, policies, counts, flows, out) {
+    match ranking::rank(now.header, tags, policies, counts, now.length, flows, out) {
         Ranked::Done => text(b": ranked"),
         Ranked::ShortOutput => text(b": refused 10, leaves"),
         Ranked::BadSize => text(b": refused 9, leaves"),
@@ -79,7 +103,7 @@ fn wide(c: u16) -> u64 {
 }
 
 // `view`: the sets of all containers.
-pub fn view(now: Answered, tags: &[u64]) {
+pub fn view(now: Now, tags: &[u64]) {
     let header = now.header;
     let n = header.containers;
     text(b":");
@@ -92,7 +116,7 @@ pub fn view(now: Answered, tags: &[u64]) {
 }
 
 // `list`: the enabled flows, each with its number and ends.
-pub fn list(now: Answered) {
+pub fn list(now: Now) {
     let header = now.header;
     let flows = now.flows;
     let count = header.count;

@@ -1,9 +1,8 @@
 // What is written past the calls: words, counts, records and headers of the script's own, and a single step of an execution.
+use crate::Now;
 use model::Flow;
 use sampleline::Numbers;
 use state::Header;
-use tracker::Answered;
-use tracker::Reply;
 
 // `word I V` and `policy I V`: a word of the tag sets, or of the policy sets.
 pub fn word(a: Numbers, words: &mut [u64]) {
@@ -22,7 +21,7 @@ pub fn count(a: Numbers, counts: &mut [u8]) {
 }
 
 // `flow I K F T`: a record of the flow table.
-pub fn flow(a: Numbers, now: Answered) -> Answered {
+pub fn flow(a: Numbers, now: Now) -> Now {
     let flow = Flow {
         number: a.small(1),
         from: a.small(2),
@@ -31,25 +30,25 @@ pub fn flow(a: Numbers, now: Answered) -> Answered {
     let header = now.header;
     let before = now.flows;
     let flows = flowtable::append(before, a.small(0), flow);
-    Answered {
-        reply: Reply::Accepted(0),
+    Now {
         header: header,
         flows: flows,
+        length: now.length,
     }
 }
 
 // `header N C G`: the header.
-pub fn header(a: Numbers, now: Answered) -> Answered {
+pub fn header(a: Numbers, now: Now) -> Now {
     let header = Header {
         containers: a.small(0),
         count: a.small(1),
         greatest: a.small(2),
     };
     let flows = now.flows;
-    Answered {
-        reply: Reply::Accepted(0),
+    Now {
         header: header,
         flows: flows,
+        length: now.length,
     }
 }
 

@@ -3,26 +3,26 @@ use crate::runs::replay_log;
 use crate::runs::tally;
 use eventlog::Event;
 use leb128::Encoded;
+use samplecalls::Now;
 use sampleline::Numbers;
 use sampleline::print::text;
-use tracker::Answered;
 
 // `large K`: the K-th of the logs below, replayed, and its text.
 pub fn large(
     a: Numbers,
-    now: Answered,
+    now: Now,
     tags: &mut [u64],
     policies: &mut [u64],
     counts: &mut [u8],
-) -> Answered {
+) -> Now {
     let mut log = [0u8; 16385];
     let end = put_log(&mut log, a.small(0));
     if 16385 < end {
         return now;
     }
-    let replayed = replay_log(&log[..end], now, tags, policies, counts);
+    replay_log(&log[..end], now, tags, policies, counts);
     text(b", text");
-    tally(&log[..end], replayed, tags, policies, counts)
+    tally(&log[..end], now.length, tags, policies, counts)
 }
 
 // Writes a log and answers its length: 513 flows; 16,384 bytes, and one more; 256 containers with no flow, and in a ring.

@@ -3,14 +3,13 @@ use leb128::Encoded;
 use replay::Containers;
 use replay::Ending;
 use report::Tallied;
-use samplecalls::calls::header_text;
+use samplecalls::Now;
+use samplecalls::changes::header_text;
 use sampleline::Numbers;
 use sampleline::print::named;
 use sampleline::print::refused;
 use sampleline::print::text;
 use sampleline::print::written;
-use tracker::Answered;
-use tracker::Reply;
 
 // `judge T P C F B..`: n of a log, in lists of these lengths.
 pub fn judge(a: Numbers, s: &[u8]) {
@@ -32,24 +31,26 @@ pub fn judge(a: Numbers, s: &[u8]) {
 // `replay B..`: how the run ended, the events done, their gain and the header.
 pub fn replay_log(
     s: &[u8],
-    now: Answered,
+    now: Now,
     tags: &mut [u64],
     policies: &mut [u64],
     counts: &mut [u8],
-) -> Answered {
+) -> Now {
     let before = now.flows;
-    let done = replay::replay(s, tags, policies, counts, before);
+    let length = now.length;
+    let run = replay::replay(s, tags, policies, counts, length, before);
+    let done = run.replayed;
     let ending = done.ending;
     ending_text(ending, done.byte);
     named(b", events ", done.events);
     named(b", gain ", done.gain);
     let header = done.header;
     header_text(b", n ", header);
-    let flows = done.flows;
-    Answered {
-        reply: Reply::Accepted(0),
+    let flows = run.flows;
+    Now {
         header: header,
         flows: flows,
+        length: length,
     }
 }
 
@@ -64,23 +65,22 @@ fn ending_text(ending: Ending, byte: usize) {
     }
 }
 
-// `tally B..`: the whole text, on lines of its own.
+// `tally B..`: the whole text, on lines of its own. The run has a flow table of its own; `length` is only carried on.
 pub fn tally(
     s: &[u8],
-    now: Answered,
+    length: usize,
     tags: &mut [u64],
     policies: &mut [u64],
     counts: &mut [u8],
-) -> Answered {
-    let before = now.flows;
+) -> Now {
     let mut out = [0u8; 264256];
-    let done = report::tally(s, tags, policies, counts, before, &mut out);
+    let done = report::tally(s, tags, policies, counts, &mut out);
     text(b":");
     let reply = done.reply;
-    if let Encoded::Next(length) = reply {
-        lines(&out, length);
+    if let Encoded::Next(end) = reply {
+        lines(&out, end);
     }
-    left_by(done)
+    left_by(done, length)
 }
 
 // The text of this length: on lines of its own, without its last newline, or only how long it is where that is above 512.
@@ -101,14 +101,14 @@ fn front(s: &[u8], n: usize) {
     }
 }
 
-// The tracker that a run of `tally` left.
-fn left_by(done: Tallied) -> Answered {
+// The tracker that a run of `tally` left; as much counts as lent as before.
+fn left_by(done: Tallied, length: usize) -> Now {
     let header = done.header;
     let flows = done.flows;
-    Answered {
-        reply: Reply::Accepted(0),
+    Now {
         header: header,
         flows: flows,
+        length: length,
     }
 }
 
@@ -116,28 +116,27 @@ fn left_by(done: Tallied) -> Answered {
 pub fn short(
     a: Numbers,
     s: &[u8],
-    now: Answered,
+    length: usize,
     tags: &mut [u64],
     policies: &mut [u64],
     counts: &mut [u8],
-) -> Answered {
+) -> Now {
     let n = (a.get(0) % 65) as usize;
     let mut out = [7u8; 64];
-    tally_into(s, now, tags, policies, counts, &mut out[..n])
+    tally_into(s, length, tags, policies, counts, &mut out[..n])
 }
 
 // The text into these bytes, and what they have then.
 fn tally_into(
     s: &[u8],
-    now: Answered,
+    length: usize,
     tags: &mut [u64],
     policies: &mut [u64],
     counts: &mut [u8],
     out: &mut [u8],
-) -> Answered {
-    let before = now.flows;
-    let done = report::tally(s, tags, policies, counts, before, out);
+) -> Now {
+    let done = report::tally(s, tags, policies, counts, out);
     let reply = done.reply;
     written(reply, out);
-    left_by(done)
+    left_by(done, length)
 }

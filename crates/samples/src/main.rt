@@ -1,7 +1,8 @@
 // Runs a script: prints each of its lines, and behind it what the library answers. The script is the file stdin, what must be printed the file stdout.
 use model::Flow;
+use samplecalls::Now;
 use samplecalls::asks;
-use samplecalls::calls;
+use samplecalls::changes;
 use samplecalls::pokes;
 use sampleline::Numbers;
 use sampleline::command::Command;
@@ -12,8 +13,6 @@ use samplelog::sets;
 use sampleruns::large;
 use sampleruns::runs;
 use state::Header;
-use tracker::Answered;
-use tracker::Reply;
 ghost use Prim.Native.Nat.{_≤_};
 ghost use lib.ListN.{length};
 
@@ -22,6 +21,7 @@ struct Room {
     tags: usize,
     policies: usize,
     counts: usize,
+    flows: usize,
 }
 
 fn main() {
@@ -41,11 +41,12 @@ fn run(s: &[u8], tags: &mut [u64], policies: &mut [u64], counts: &mut [u8])
         tags: 1028,
         policies: 4112,
         counts: 257,
+        flows: 512,
     };
-    let mut now = Answered {
-        reply: Reply::Accepted(0),
+    let mut now = Now {
         header: Header::NONE,
         flows: [Flow::NONE; 512],
+        length: 512,
     };
     let mut at: usize = 0;
     while at < s.len() {
@@ -55,13 +56,15 @@ fn run(s: &[u8], tags: &mut [u64], policies: &mut [u64], counts: &mut [u8])
         let command = sampleline::command::command_of(line);
         let a = sampleline::numbers_of(line);
         room = room_after(room, command, a);
+        now.length = room.flows;
         now = lent(room, command, a, now, tags, policies, counts);
         text(b"\n");
         at = end + 1;
     }
 }
 
-// `room T P C`: from now on so many words of tags, words of policy sets and counts are lent.
+// `room T P C F`: from now on so many words of tags, words of policy sets, counts and records of the flow table are lent. There are 512 records; up to 600
+// count as lent, and those past the 512th are not judged.
 fn room_after(room: Room, command: Command, a: Numbers) -> Room {
     match command {
         Command::Room => {
@@ -69,6 +72,7 @@ fn room_after(room: Room, command: Command, a: Numbers) -> Room {
                 tags: a.get(0) as usize,
                 policies: a.get(1) as usize,
                 counts: a.get(2) as usize,
+                flows: a.get(3) as usize,
             };
             if is_there(asked) {
                 return asked;
@@ -82,7 +86,7 @@ fn room_after(room: Room, command: Command, a: Numbers) -> Room {
 
 // Whether there is so much of each list.
 fn is_there(room: Room) -> bool {
-    (room.tags <= 1028) & (room.policies <= 4112) & (room.counts <= 257)
+    (room.tags <= 1028) & (room.policies <= 4112) & (room.counts <= 257) & (room.flows <= 600)
 }
 
 // Does what a line says with this much of each list.
@@ -90,11 +94,11 @@ fn lent(
     room: Room,
     command: Command,
     a: Numbers,
-    now: Answered,
+    now: Now,
     tags: &mut [u64],
     policies: &mut [u64],
     counts: &mut [u8],
-) -> Answered {
+) -> Now {
     let t = room.tags;
     let p = room.policies;
     let c = room.counts;
@@ -121,11 +125,11 @@ fn lent(
 fn step(
     command: Command,
     a: Numbers,
-    now: Answered,
+    now: Now,
     tags: &mut [u64],
     policies: &mut [u64],
     counts: &mut [u8],
-) -> Answered {
+) -> Now {
     let bytes = a.bytes();
     let first = first_byte(command);
     let count = a.count;
@@ -163,22 +167,22 @@ fn change(
     command: Command,
     a: Numbers,
     s: &[u8],
-    now: Answered,
+    now: Now,
     tags: &mut [u64],
     policies: &mut [u64],
     counts: &mut [u8],
-) -> Answered {
+) -> Now {
     match command {
-        Command::Start => calls::start(a, now, tags, policies, counts),
-        Command::Enable => calls::enable(a, now, tags, policies, counts),
-        Command::Disable => calls::disable(a, now, tags, policies, counts),
-        Command::Add => calls::add(a, now, tags, policies, counts),
-        Command::Fill => calls::fill(a, now, tags, policies, counts),
+        Command::Start => changes::start(a, now, tags, policies, counts),
+        Command::Enable => changes::enable(a, now, tags, policies, counts),
+        Command::Disable => changes::disable(a, now, tags, policies, counts),
+        Command::Add => changes::add(a, now, tags, policies, counts),
+        Command::Fill => changes::fill(a, now, tags, policies, counts),
         Command::Flow => pokes::flow(a, now),
         Command::Header => pokes::header(a, now),
         Command::Replay => runs::replay_log(s, now, tags, policies, counts),
-        Command::Tally => runs::tally(s, now, tags, policies, counts),
-        Command::Short => runs::short(a, s, now, tags, policies, counts),
+        Command::Tally => runs::tally(s, now.length, tags, policies, counts),
+        Command::Short => runs::short(a, s, now.length, tags, policies, counts),
         Command::Large => large::large(a, now, tags, policies, counts),
         _ => {
             poke(command, a, tags, policies, counts);
@@ -204,7 +208,7 @@ fn ask(
     command: Command,
     a: Numbers,
     s: &[u8],
-    now: Answered,
+    now: Now,
     tags: &[u64],
     policies: &[u64],
     counts: &[u8],
@@ -216,7 +220,7 @@ fn ask(
         Command::Rank => asks::rank(a, now, tags, policies, counts),
         Command::View => asks::view(now, tags),
         Command::List => asks::list(now),
-        Command::Now => calls::header_text(b": n ", now.header),
+        Command::Now => changes::header_text(b": n ", now.header),
         _ => read(command, a, s),
     }
 }

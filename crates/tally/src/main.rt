@@ -1,6 +1,5 @@
 // The program: reads a log from standard input, up to one byte more than it may have, and writes its report to standard output.
 use leb128::Encoded;
-use model::Flow;
 ghost use mathlib.Core.Path.{_≡_};
 ghost use Prim.Native.Nat.{_≤_};
 ghost use lib.ListN.{length, take};
@@ -25,15 +24,7 @@ fn report_of(input: &[u8], n: usize, text: &mut [u8]) -> usize
     let mut tags = [0u64; 1024];
     let mut policies = [0u64; 4096];
     let mut counts = [0u8; 256];
-    let none = [Flow::NONE; 512];
-    let made = report::tally(
-        &input[..n],
-        &mut tags,
-        &mut policies,
-        &mut counts,
-        none,
-        text,
-    );
+    let made = report::tally(&input[..n], &mut tags, &mut policies, &mut counts, text);
     let reply = made.reply;
     match reply {
         Encoded::Next(length) => length,

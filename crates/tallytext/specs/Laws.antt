@@ -112,11 +112,11 @@ pub long-report : (bs : List ℕ) (lent : Storage) (ws : List ℕ) → 16384 < l
 long-report bs lent ws h = no-container ws 10 16384 0 0 ∙ last-refused 9 16384 0 0 ∙ sym (text-of-long-input bs lent h)
 
 -- and for a replay that gave back r
-pub replay-report : (bs : List ℕ) (lent : Storage) (r : Replayed) (tags policies counts : List ℕ) → length bs ≤ 16384
-    → replayBy r tags policies counts ≡ replayOf bs lent
+pub replay-report : (bs : List ℕ) (lent : Storage) (r : Replayed) (tags policies counts : List ℕ) (flows : List Flow) → length bs ≤ 16384
+    → replayBy r tags policies counts flows ≡ replayOf bs lent
     → reportOf (r .header .containers) tags (endingOf (r .ending)) (r .byte) (r .events) (r .gain) ≡ textOf bs lent
 unfolding replayText
-replay-report bs lent r tags policies counts h e = ap replayText e ∙ sym (text-of-replay bs lent h)
+replay-report bs lent r tags policies counts flows h e = ap replayText e ∙ sym (text-of-replay bs lent h)
 
 -- THE TAGS OF A SET
 

@@ -1,5 +1,1 @@
-pub mod Replies
-pub mod Unjudged
-pub mod UnjudgedLaws
-pub mod Judged
-pub mod UnjudgedBranches
+pub mod Lent

@@ -1,38 +1,27 @@
-// The tracker: start, enable, disable, add a policy set. What each call answers and leaves stands in outcome/specs/Outcome.antt, what is claimed of it in claims/specs/Claims.antt.
-// Lent are four words of tags a container, sixteen words of policy sets and one count of these; the flow table goes by value.
-use flowtable::Found;
+// The calls of the tracker on lent storage: the library's face. Lent are four words of tags a container, sixteen words of policy sets, one count of these, and
+// a table of 512 records of flows, each list of any length and content: what is too short is refused, what lies beyond is neither judged nor touched.
+// Each call loads the table's records by one scan, has the work done on plain data, and stores the records that the work changed.
+// What a call answers and leaves stands in outcome/specs/Outcome.antt, question/specs/Question.antt, ranking/specs/Ranking.antt and replay/specs/Replay.antt,
+// what is claimed of it in claims/specs/Claims.antt.
+use calls::Answered;
 use model::Flow;
+use question::Legal;
+use question::Size;
+use question::Tags;
+use ranking::Ranked;
+use replay::Replayed;
 use state::Header;
 use tagset::TagSet;
-use validity::Judgement;
 ghost use mathlib.Core.Path.{_≡_};
-ghost use mathlib.Core.List.{List};
-ghost use Prim.Native.Nat.{ℕ, _*_, _≤_};
-ghost use lib.ListN.{length};
 ghost use Rattle.state.specs.State.{storageOf, stateOf};
-ghost use Rattle.tracker.specs.Replies.{givenBack, leftBy};
 ghost use Rattle.outcome.specs.Outcome.{startOf, enableOf, disableOf, addOf};
-ghost use Rattle.tracker.specs.Unjudged.{applyEnableOf, applyDisableOf, applyAddOf};
-
-// What a call answers: that it is accepted, with its gain, or the refusal (specs/Replies.antt has the paper's numbers).
-pub enum Reply {
-    Accepted(u32),
-    NoSuchContainer,
-    SelfFlow,
-    StaleNumber,
-    TableFull,
-    NotEnabled,
-    BadSize,
-    PolicyFull,
-    InvalidState,
-}
-
-// What a call gives back: its answer, the header and the flow table.
-pub struct Answered {
-    pub reply: Reply,
-    pub header: Header,
-    pub flows: [Flow; 512],
-}
+ghost use Rattle.calls.specs.Replies.{leftBy};
+ghost use Rattle.question.specs.Question.{tagsOf, sizeAsked, legalOf};
+ghost use Rattle.question.specs.Replies.{tagsReply, sizeReply, legalReply};
+ghost use Rattle.ranking.specs.Ranking.{rankOf};
+ghost use Rattle.ranking.specs.Replies.{rankedReply};
+ghost use Rattle.replay.specs.Replay.{replayOf};
+ghost use Rattle.replay.specs.Replies.{replayBy};
 
 // Starts a tracker of n containers in this storage: each container has its own tag alone and no policy set, and no flow is enabled.
 pub fn start(
@@ -40,43 +29,31 @@ pub fn start(
     tags: &mut [u64],
     policies: &mut [u64],
     counts: &mut [u8],
-    flows: [Flow; 512],
+    flows: &mut [Flow],
 ) -> Answered
-    ensures { λ r. ⌜ leftBy r (now (tags .exit)) (now (policies .exit)) (now (counts .exit)) ≡ startOf n (storageOf (now (tags .entry)) (now (policies .entry)) (now (counts .entry)) flows) ⌝ }
+    ensures { λ r. ⌜ leftBy r (now (tags .exit)) (now (policies .exit)) (now (counts .exit)) (now (flows .exit)) ≡ startOf n (storageOf (now (tags .entry)) (now (policies .entry)) (now (counts .entry)) (now (flows .entry))) ⌝ }
 {
-    if validity::bad_size(n, tags.len(), policies.len(), counts.len(), 512) {
-        return refused(Reply::BadSize, Header::NONE, flows);
-    }
-    tagstore::store_own_tags(tags, n);
-    tagstore::clear_words(policies, 16 * (n as usize));
-    tagstore::clear_bytes(counts, n as usize);
-    Answered {
-        reply: Reply::Accepted(0),
-        header: Header {
-            containers: n,
-            count: 0,
-            greatest: 0,
-        },
-        flows: [Flow::NONE; 512],
-    }
+    let rows = flowslice::load(flows);
+    let made = calls::start(n, tags, policies, counts, flows.len(), rows);
+    flowslice::store(flows, made.first, made.end, made.flows);
+    made.answered
 }
 
-// Enables a flow (document 01: an opening). The policy sets are judged with the state, and stay.
+// Enables a flow (document 01: an opening).
 pub fn enable(
     header: Header,
     tags: &mut [u64],
     policies: &[u64],
     counts: &[u8],
-    flows: [Flow; 512],
+    flows: &mut [Flow],
     flow: Flow,
 ) -> Answered
-    ensures { λ r. ⌜ leftBy r (now (tags .exit)) (now (policies .entry)) (now (counts .entry)) ≡ enableOf (stateOf header (now (tags .entry)) (now (policies .entry)) (now (counts .entry)) flows) flow ⌝ }
+    ensures { λ r. ⌜ leftBy r (now (tags .exit)) (now (policies .entry)) (now (counts .entry)) (now (flows .exit)) ≡ enableOf (stateOf header (now (tags .entry)) (now (policies .entry)) (now (counts .entry)) (now (flows .entry))) flow ⌝ }
 {
-    match validity::judge(header, tags, policies, counts, flows) {
-        Judgement::BadSize => refused(Reply::BadSize, header, flows),
-        Judgement::InvalidState => refused(Reply::InvalidState, header, flows),
-        Judgement::Usable => apply_enable(header, tags, flows, flow),
-    }
+    let rows = flowslice::load(flows);
+    let made = calls::enable(header, tags, policies, counts, flows.len(), rows, flow);
+    flowslice::store(flows, made.first, made.end, made.flows);
+    made.answered
 }
 
 // Disables the flow of this number (document 01: a closing). No set changes.
@@ -85,16 +62,15 @@ pub fn disable(
     tags: &[u64],
     policies: &[u64],
     counts: &[u8],
-    flows: [Flow; 512],
+    flows: &mut [Flow],
     number: u32,
 ) -> Answered
-    ensures { λ r. ⌜ leftBy r (now (tags .entry)) (now (policies .entry)) (now (counts .entry)) ≡ disableOf (stateOf header (now (tags .entry)) (now (policies .entry)) (now (counts .entry)) flows) number ⌝ }
+    ensures { λ r. ⌜ leftBy r (now (tags .entry)) (now (policies .entry)) (now (counts .entry)) (now (flows .exit)) ≡ disableOf (stateOf header (now (tags .entry)) (now (policies .entry)) (now (counts .entry)) (now (flows .entry))) number ⌝ }
 {
-    match validity::judge(header, tags, policies, counts, flows) {
-        Judgement::BadSize => refused(Reply::BadSize, header, flows),
-        Judgement::InvalidState => refused(Reply::InvalidState, header, flows),
-        Judgement::Usable => apply_disable(header, flows, number),
-    }
+    let rows = flowslice::load(flows);
+    let made = calls::disable(header, tags, policies, counts, flows.len(), rows, number);
+    flowslice::store(flows, made.first, made.end, made.flows);
+    made.answered
 }
 
 // Adds a policy set to a container (document 01: a permitted set), behind those that it has. It is no event.
@@ -103,110 +79,98 @@ pub fn add_policy(
     tags: &[u64],
     policies: &mut [u64],
     counts: &mut [u8],
-    flows: [Flow; 512],
+    flows: &[Flow],
     container: u32,
     policy: TagSet,
 ) -> Answered
-    ensures { λ r. ⌜ leftBy r (now (tags .entry)) (now (policies .exit)) (now (counts .exit)) ≡ addOf (stateOf header (now (tags .entry)) (now (policies .entry)) (now (counts .entry)) flows) container policy ⌝ }
+    ensures { λ r. ⌜ leftBy r (now (tags .entry)) (now (policies .exit)) (now (counts .exit)) (now (flows .entry)) ≡ addOf (stateOf header (now (tags .entry)) (now (policies .entry)) (now (counts .entry)) (now (flows .entry))) container policy ⌝ }
 {
-    match validity::judge(header, tags, policies, counts, flows) {
-        Judgement::BadSize => refused(Reply::BadSize, header, flows),
-        Judgement::InvalidState => refused(Reply::InvalidState, header, flows),
-        Judgement::Usable => apply_add(header, policies, counts, flows, container, policy),
-    }
+    let rows = flowslice::load(flows);
+    calls::add_policy(
+        header,
+        tags,
+        policies,
+        counts,
+        flows.len(),
+        rows,
+        container,
+        policy,
+    )
 }
 
-// Enables a flow without judging the state: on a usable state (law `apply-enable`) as `enable` does. The policy sets are not looked at.
-pub fn apply_enable(header: Header, tags: &mut [u64], flows: [Flow; 512], flow: Flow) -> Answered
-    ensures { λ r. ⌜ ((policies counts : List ℕ) → leftBy r (now (tags .exit)) policies counts ≡ applyEnableOf (stateOf header (now (tags .entry)) policies counts flows) flow) ⌝ }
-{
-    if header.containers <= flow.from {
-        return refused(Reply::NoSuchContainer, header, flows);
-    }
-    if header.containers <= flow.to {
-        return refused(Reply::NoSuchContainer, header, flows);
-    }
-    if flow.from == flow.to {
-        return refused(Reply::SelfFlow, header, flows);
-    }
-    if flow.number <= header.greatest {
-        return refused(Reply::StaleNumber, header, flows);
-    }
-    if 512 <= header.count {
-        return refused(Reply::TableFull, header, flows);
-    }
-    let count = header.count + 1;
-    let table = flowtable::append(flows, header.count, flow);
-    let made = propagation::propagate(tags, header.containers, table, count);
-    Answered {
-        reply: Reply::Accepted(made.gain),
-        header: Header {
-            containers: header.containers,
-            count: count,
-            greatest: flow.number,
-        },
-        flows: table,
-    }
-}
-
-// Disables the flow of this number without judging the state: on a usable state (law `apply-disable`) as `disable` does.
-pub fn apply_disable(header: Header, flows: [Flow; 512], number: u32) -> Answered
-    ensures { λ r. ⌜ ((tags policies counts : List ℕ) → leftBy r tags policies counts ≡ applyDisableOf (stateOf header tags policies counts flows) number) ⌝ }
-{
-    let found = flowtable::find(flows, header.count, number);
-    let Found::At(place) = found else {
-        return refused(Reply::NotEnabled, header, flows);
-    };
-    Answered {
-        reply: Reply::Accepted(0),
-        header: Header {
-            containers: header.containers,
-            count: header.count - 1,
-            greatest: header.greatest,
-        },
-        flows: flowtable::remove(flows, header.count, place),
-    }
-}
-
-// Adds a policy set in storage that is long enough, without judging the state.
-fn apply_add(
+// The container's tag set.
+pub fn tags_of(
     header: Header,
+    tags: &[u64],
+    policies: &[u64],
+    counts: &[u8],
+    flows: &[Flow],
+    container: u32,
+) -> Tags
+    ensures { λ r. ⌜ tagsReply r ≡ tagsOf (stateOf header (now (tags .entry)) (now (policies .entry)) (now (counts .entry)) (now (flows .entry))) container ⌝ }
+{
+    let rows = flowslice::load(flows);
+    question::tags_of(header, tags, policies, counts, flows.len(), rows, container)
+}
+
+// How many tags the container has.
+pub fn size_of(
+    header: Header,
+    tags: &[u64],
+    policies: &[u64],
+    counts: &[u8],
+    flows: &[Flow],
+    container: u32,
+) -> Size
+    ensures { λ r. ⌜ sizeReply r ≡ sizeAsked (stateOf header (now (tags .entry)) (now (policies .entry)) (now (counts .entry)) (now (flows .entry))) container ⌝ }
+{
+    let rows = flowslice::load(flows);
+    question::size_of(header, tags, policies, counts, flows.len(), rows, container)
+}
+
+// Whether the container may be sent: whether its tag set is part of one of its policy sets.
+pub fn is_legal(
+    header: Header,
+    tags: &[u64],
+    policies: &[u64],
+    counts: &[u8],
+    flows: &[Flow],
+    container: u32,
+) -> Legal
+    ensures { λ r. ⌜ legalReply r ≡ legalOf (stateOf header (now (tags .entry)) (now (policies .entry)) (now (counts .entry)) (now (flows .entry))) container ⌝ }
+{
+    let rows = flowslice::load(flows);
+    question::is_legal(header, tags, policies, counts, flows.len(), rows, container)
+}
+
+// Writes the numbers of all containers, in the order of their ranking, at the start of `out`.
+pub fn rank(
+    header: Header,
+    tags: &[u64],
+    policies: &[u64],
+    counts: &[u8],
+    flows: &[Flow],
+    out: &mut [u16],
+) -> Ranked
+    ensures answer { λ r. ⌜ rankedReply r ≡ rankOf (stateOf header (now (tags .entry)) (now (policies .entry)) (now (counts .entry)) (now (flows .entry))) (now (out .entry)) .refusal ⌝ }
+    ensures output { λ r. ⌜ now (out .exit) ≡ rankOf (stateOf header (now (tags .entry)) (now (policies .entry)) (now (counts .entry)) (now (flows .entry))) (now (out .entry)) .output ⌝ }
+{
+    let rows = flowslice::load(flows);
+    ranking::rank(header, tags, policies, counts, flows.len(), rows, out)
+}
+
+// Runs a whole log in this storage: starts with its n, then enables and disables by its records, up to the end of the bytes or the first refusal.
+pub fn replay(
+    bytes: &[u8],
+    tags: &mut [u64],
     policies: &mut [u64],
     counts: &mut [u8],
-    flows: [Flow; 512],
-    container: u32,
-    policy: TagSet,
-) -> Answered
-    requires { ⌜ (header .containers ≤ 256) × (16 * header .containers ≤ length (now policies)) × (header .containers ≤ length (now counts)) ⌝ }
-    ensures { λ r. ⌜ ((tags : List ℕ) → leftBy r tags (now (policies .exit)) (now (counts .exit)) ≡ applyAddOf (stateOf header tags (now (policies .entry)) (now (counts .entry)) flows) container policy) ⌝ }
+    flows: &mut [Flow],
+) -> Replayed
+    ensures { λ r. ⌜ replayBy r (now (tags .exit)) (now (policies .exit)) (now (counts .exit)) (now (flows .exit)) ≡ replayOf (now (bytes .entry)) (storageOf (now (tags .entry)) (now (policies .entry)) (now (counts .entry)) (now (flows .entry))) ⌝ }
 {
-    if header.containers <= container {
-        return refused(Reply::NoSuchContainer, header, flows);
-    }
-    if policy.exceeds(header.containers) {
-        return refused(Reply::NoSuchContainer, header, flows);
-    }
-    let c = container as usize;
-    let k = counts[c];
-    if 4 <= k {
-        return refused(Reply::PolicyFull, header, flows);
-    }
-    tagstore::store_set(policies, 4 * c + (k as usize), policy);
-    counts[c] = k + 1;
-    Answered {
-        reply: Reply::Accepted(0),
-        header: header,
-        flows: flows,
-    }
-}
-
-// A refusal: header and flows as they are.
-fn refused(reply: Reply, header: Header, flows: [Flow; 512]) -> Answered
-    ensures { λ r. ⌜ r ≡ givenBack reply header flows ⌝ }
-{
-    Answered {
-        reply: reply,
-        header: header,
-        flows: flows,
-    }
+    let rows = flowslice::load(flows);
+    let made = replay::replay(bytes, tags, policies, counts, flows.len(), rows);
+    flowslice::store(flows, 0, made.end, made.flows);
+    made.replayed
 }

@@ -1,3 +1,4 @@
 pub mod Judge
+pub mod Lent
 pub mod Scan
 pub mod Scanned

@@ -4,6 +4,7 @@ use mathlib.Core.Bool.{false}
 use mathlib.Core.Path.{_≡_, sym, ap, _∙_}
 use Prim.Native.Nat.{ℕ, suc, _<_}
 use native.Mathlib.Omega.{arith}
+use lib.ListN.{take}
 use borrow.Author.Needs.{needs}
 use Rattle.refusal.specs.Order.{firstOf}
 use Rattle.tagset.specs.declared.TagSet.{TagSet}
@@ -20,7 +21,7 @@ use Rattle.question.proofs.is_legal.Tie as tie
 
 -- the state that is asked about
 abbrev at : tie.After-tags-of → State
-at j = let a = j .before .before .before .before .args in stateOf (a .header) (a .tags .now) (a .policies .now) (a .counts .now) (a .flows)
+at j = let a = j .before .before .before .before .args in stateOf (a .header) (a .tags .now) (a .policies .now) (a .counts .now) (take (a .length) (a .flows))
 
 -- the container
 abbrev which : tie.After-tags-of → ℕ

@@ -1,6 +1,7 @@
 -- `size_of` meets its contract: what is found decides between the refusals and the size of the set. Assumes nothing.
 use mathlib.Core.Path.{_≡_, sym, ap, _∙_}
 use Prim.Native.Nat.{ℕ, suc}
+use lib.ListN.{take}
 use borrow.Author.Needs.{needs}
 use Rattle.refusal.specs.Order.{firstOf}
 use Rattle.tagset.specs.Set.{sizeOf}
@@ -15,7 +16,7 @@ use Rattle.question.proofs.size_of.Tie as tie
 
 -- the state that is asked about
 abbrev at : tie.After-tags-of → State
-at j = let a = j .before .before .before .before .args in stateOf (a .header) (a .tags .now) (a .policies .now) (a .counts .now) (a .flows)
+at j = let a = j .before .before .before .before .args in stateOf (a .header) (a .tags .now) (a .policies .now) (a .counts .now) (take (a .length) (a .flows))
 
 -- the container
 abbrev which : tie.After-tags-of → ℕ

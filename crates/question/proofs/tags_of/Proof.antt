@@ -3,6 +3,7 @@
 use mathlib.Core.Path.{_≡_, sym, ap, _∙_}
 use Prim.Native.Nat.{ℕ, suc}
 use native.Mathlib.Omega.{arith}
+use lib.ListN.{take}
 use borrow.Author.Needs.{needs}
 use Rattle.refusal.specs.Order.{firstOf}
 use Rattle.tagset.specs.Set.{emptySet}
@@ -20,7 +21,7 @@ use Rattle.question.proofs.tags_of.Tie as tie
 
 -- the state that is asked about
 abbrev at : tie.After-judge → State
-at j = let a = j .before .before .before .before .args in stateOf (a .header) (a .tags .now) (a .policies .now) (a .counts .now) (a .flows)
+at j = let a = j .before .before .before .before .args in stateOf (a .header) (a .tags .now) (a .policies .now) (a .counts .now) (take (a .length) (a .flows))
 
 -- the container
 abbrev which : tie.After-judge → ℕ

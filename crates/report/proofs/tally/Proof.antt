@@ -3,13 +3,17 @@ use mathlib.Core.Path.{_≡_, sym, ap, subst, _∙_}
 use mathlib.Core.List.{List}
 use Prim.Native.Nat.{ℕ, _*_, _≤_, _<_}
 use native.Mathlib.Omega.{arith}
-use lib.ListN.{length}
+use lib.ListN.{length, replicate, length-replicate}
+use lib.Seq.{take-all}
 use borrow.Author.Needs.{needs}
 use Rattle.leb128.specs.Answer.{Writing}
 use Rattle.leb128.specs.Number.{writeAt}
-use Rattle.state.specs.State.{Storage, storageOf, stateOf}
-use Rattle.replay.specs.Replay.{Replay}
-use Rattle.replay.specs.Replies.{endingOf}
+use Rattle.model.specs.declared.Flow.{Flow}
+use Rattle.state.specs.State.{Storage, storageOf, stateOf, noFlow}
+use Rattle.flowslice.specs.Laws.{stored-length}
+use Rattle.replay.specs.declared.Replayed.{Replayed}
+use Rattle.replay.specs.Replay.{Replay, replayOf}
+use Rattle.replay.specs.Replies.{endingOf, replayBy}
 use Rattle.tallytext.specs.Text.{reportOf, textOf, leftOf}
 use Rattle.replay.specs.Numbers.{replay-room}
 use Rattle.tallytext.specs.Laws.{left-of-long-input, left-of-replay, long-report, replay-report}
@@ -18,7 +22,7 @@ use Rattle.report.proofs.tally.Tie as tie
 
 -- the storage that the call is given
 abbrev lent : tie.Start → Storage
-lent c = storageOf (c .args .tags .now) (c .args .policies .now) (c .args .counts .now) (c .args .flows)
+lent c = storageOf (c .args .tags .now) (c .args .policies .now) (c .args .counts .now) (replicate 512 noFlow)
 
 module _ (out : List ℕ) {t u : List ℕ} (e : t ≡ u) where
   -- what was written of a text, said of one that is the same
@@ -62,31 +66,48 @@ module _ (c : tie.After-replay) where
   abbrev tags : List ℕ
   tags = c .replay .last .1 .0
 
+  -- what it gave back
+  abbrev made : Replayed
+  made = c .replay .result .replayed
+
+  -- the records stored are as many as there were
+  long : length (c .replay .result .flows) ≤ 512
+  long =
+      let e = stored-length 0 (c .replay .result .end) (c .replay .result .flows) (replicate 512 noFlow) in
+      omega (arith, e, ap length (c .replay .ensures .1), length-replicate {A = Flow} 512 noFlow)
+
+  -- so the run is that on the whole table
+  run : replayBy made tags (c .replay .last .1 .1 .0) (c .replay .last .1 .1 .1 .0) (c .replay .result .flows) ≡ replayOf (start .args .bytes .now) (lent start)
+  run =
+      ap (replayBy made tags (c .replay .last .1 .1 .0) (c .replay .last .1 .1 .1 .0)) (sym (take-all 512 (c .replay .result .flows) long))
+      ∙ c .replay .ensures .0
+      ∙ ap (λ (fs : List Flow). replayOf (start .args .bytes .now) (storageOf (start .args .tags .now) (start .args .policies .now) (start .args .counts .now) fs))
+      (take-all 512 (replicate 512 noFlow) (omega (arith, length-replicate {A = Flow} 512 noFlow)))
+
   -- the ranking can be written
-  room : (c .replay .result .header .containers ≤ 256) × (4 * c .replay .result .header .containers ≤ length tags)
+  room : (made .header .containers ≤ 256) × (4 * made .header .containers ≤ length tags)
   room =
       subst (λ (r : Replay). (r .state .header .containers ≤ 256) × (4 * r .state .header .containers ≤ length (r .state .storage .tags)))
-      (sym (c .replay .ensures)) (replay-room (start .args .bytes .now) (lent start))
+      (sym run) (replay-room (start .args .bytes .now) (lent start))
 
   -- it is not too long
   short : length (start .args .bytes .now) ≤ 16384
   short = omega (arith, c .before .before .before .before .if1 .left)
 
   -- the report is the input's text
-  text : {k : ℕ} → k ≡ endingOf (c .replay .result .ending)
-      → let r = c .replay .result in reportOf (r .header .containers) tags k (r .byte) (r .events) (r .gain) ≡ textOf (start .args .bytes .now) (lent start)
+  text : {k : ℕ} → k ≡ endingOf (made .ending)
+      → reportOf (made .header .containers) tags k (made .byte) (made .events) (made .gain) ≡ textOf (start .args .bytes .now) (lent start)
   text e =
-      let r = c .replay .result in
-      ap (λ (j : ℕ). reportOf (r .header .containers) tags j (r .byte) (r .events) (r .gain)) e
-      ∙ replay-report (start .args .bytes .now) (lent start) r tags (c .replay .last .1 .1 .0) (c .replay .last .1 .1 .1 .0) short (c .replay .ensures)
+      ap (λ (j : ℕ). reportOf (made .header .containers) tags j (made .byte) (made .events) (made .gain)) e
+      ∙ replay-report (start .args .bytes .now) (lent start) made tags (c .replay .last .1 .1 .0) (c .replay .last .1 .1 .1 .0) (c .replay .result .flows) short run
 
   -- and what is left is the run's state
-  left : stateOf (c .replay .result .header) tags (c .replay .last .1 .1 .0) (c .replay .last .1 .1 .1 .0) (c .replay .result .flows)
+  left : stateOf (made .header) tags (c .replay .last .1 .1 .0) (c .replay .last .1 .1 .1 .0) (c .replay .result .flows)
       ≡ leftOf (start .args .bytes .now) (lent start)
-  left = ap (λ (r : Replay). r .state) (c .replay .ensures) ∙ sym (left-of-replay (start .args .bytes .now) (lent start) short)
+  left = ap (λ (r : Replay). r .state) run ∙ sym (left-of-replay (start .args .bytes .now) (lent start) short)
 
 write-report-requires-2 : tie.Need-write-report-requires-2
-write-report-requires-2 c κs = room (c .before .before .before .before .before .before .before .before .before .before .before)
+write-report-requires-2 c κs = room (c .before .before .before .before .before .before .before .before .before .before .before .before)
 
 same-length-3 : tie.Need-same-length-3
 same-length-3 c = search needs
@@ -104,7 +125,7 @@ returns-2 : tie.Need-returns-2
 returns-2 c =
     let done = c .before .before in
     let number = done .before .before .before in
-    let x = number .before .before .before .before .before .before .before .before .before in
+    let x = number .before .before .before .before .before .before .before .before .before .before in
     let same = text x (number .ending-number .ensures) in
     let w = wrote (start x .args .out .now) same (done .write-report2 .ensures) in
     (w .0, (w .1, left x))

@@ -15,14 +15,14 @@ abbrev μ-loop : tie.MeasureT-loop
 loop-holds : tie.Need-loop-holds Inv-loop μ-loop
 loop-holds c = search needs
 
-mul-t9 : tie.Need-mul-t9 Inv-loop μ-loop
-mul-t9 c = search needs
+mul-t10 : tie.Need-mul-t10 Inv-loop μ-loop
+mul-t10 c = search needs
 
-mul-t11 : tie.Need-mul-t11 Inv-loop μ-loop
-mul-t11 c = search needs
+mul-t12 : tie.Need-mul-t12 Inv-loop μ-loop
+mul-t12 c = search needs
 
-add-t12 : tie.Need-add-t12 Inv-loop μ-loop
-add-t12 c = search needs
+add-t13 : tie.Need-add-t13 Inv-loop μ-loop
+add-t13 c = search needs
 
 enable-requires : tie.Need-enable-requires Inv-loop μ-loop
 enable-requires c κs = search needs
@@ -49,9 +49,9 @@ fill-spec =
     Inv-loop
     μ-loop
     loop-holds
-    mul-t9
-    mul-t11
-    add-t12
+    mul-t10
+    mul-t12
+    add-t13
     enable-requires
     add-k
     loop-less

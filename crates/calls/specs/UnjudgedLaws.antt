@@ -32,7 +32,7 @@ use Rattle.outcome.specs.Table.{Enables}
 use Rattle.outcome.specs.Stays.{usable-count, propagated-length, propagated-keeps, flows-within, changed-flows, enable-usable}
 use Rattle.outcome.specs.Steps.{enable-accepted}
 use Rattle.outcome.specs.Effects.{gain-total, propagated-beyond}
-use Rattle.tracker.specs.Unjudged.{appendedTo, carrying, applyEnableOf, applyDisableOf, applyAddOf}
+use Rattle.calls.specs.Unjudged.{appendedTo, carrying, applyEnableOf, applyDisableOf, applyAddOf}
 
 -- PASSES AND THE CLOSURE
 

@@ -7,9 +7,10 @@ use Rattle.refusal.specs.Order.{firstOf}
 use Rattle.model.specs.declared.Flow.{Flow}
 use Rattle.state.specs.declared.Header.{Header}
 use Rattle.state.specs.State.{stateOf}
-use Rattle.tracker.specs.declared.Reply.{Reply}
-use Rattle.tracker.specs.declared.Reply.the-variants.{Accepted, NoSuchContainer, SelfFlow, StaleNumber, TableFull, NotEnabled, BadSize, PolicyFull, InvalidState}
-use Rattle.tracker.specs.declared.Answered.{Answered}
+use Rattle.calls.specs.declared.Reply.{Reply}
+use Rattle.calls.specs.declared.Reply.the-variants.{Accepted, NoSuchContainer, SelfFlow, StaleNumber, TableFull, NotEnabled, BadSize, PolicyFull, InvalidState}
+use Rattle.calls.specs.declared.Answered.{Answered}
+use Rattle.calls.specs.declared.Change.{Change}
 use Rattle.outcome.specs.Outcome.{Answer, Outcome}
 
 -- the refusal of this number, 'with all other numbers 0'
@@ -28,13 +29,17 @@ answerOf BadSize = refused 9
 answerOf PolicyFull = refused 11
 answerOf InvalidState = refused 12
 
--- what a call gives back: its reply, the header, the flow table
-abbrev pub givenBack : Reply → Header → List Flow → Answered
-givenBack reply header flows = record { reply = reply; header = header; flows = flows }
+-- what a call gives back: its reply and the header
+abbrev pub givenBack : Reply → Header → Answered
+givenBack reply header = record { reply = reply; header = header }
 
--- the outcome of a call that gave back r and left these words of tag sets, words of policy sets and counts
-abbrev pub leftBy : Answered → List ℕ → List ℕ → List ℕ → Outcome
-leftBy r tags policies counts = record { answer = answerOf (r .reply); state = stateOf (r .header) tags policies counts (r .flows) }
+-- a call that changes no record of the flow table
+abbrev pub unchanged : Reply → Header → List Flow → Change
+unchanged reply header flows = record { answered = givenBack reply header; first = 0; end = 0; flows = flows }
+
+-- the outcome of a call that gave back r and left these words of tag sets, words of policy sets, counts and this flow table
+abbrev pub leftBy : Answered → List ℕ → List ℕ → List ℕ → List Flow → Outcome
+leftBy r tags policies counts flows = record { answer = answerOf (r .reply); state = stateOf (r .header) tags policies counts flows }
 
 -- the numbers tell the replies apart, so a contract that gives them determines the reply
 replyOf : Answer → Reply

@@ -18,18 +18,21 @@ use Rattle.flowtable.specs.FlowTable.{foundIn, removedAt}
 use Rattle.flowtable.specs.Laws.{found-absent, found-place, removed-within}
 use Rattle.flowtable.specs.declared.Found.the-variants.{At, Absent}
 use Rattle.propagation.specs.Pass.{setsAfter, pairsAdded}
-use Rattle.tracker.specs.declared.Answered.{Answered}
-use Rattle.tracker.specs.declared.Reply.{Reply}
-use Rattle.tracker.specs.declared.Reply.the-variants.{Accepted}
-use Rattle.tracker.specs.Replies.{answerOf, givenBack, leftBy}
+use Rattle.calls.specs.declared.Change.{Change}
+use Rattle.calls.specs.declared.Reply.{Reply}
+use Rattle.calls.specs.declared.Reply.the-variants.{Accepted}
+use Rattle.calls.specs.Replies.{answerOf, givenBack, unchanged, leftBy}
 use Rattle.outcome.specs.Outcome.{Outcome, decided, enableLater, disableLater, addLater, adding}
-use Rattle.tracker.specs.Judged.{refusedIn, refuses}
-use Rattle.tracker.specs.Unjudged.{appendedTo, carrying, applyEnableOf, applyDisableOf, applyAddOf}
+use Rattle.calls.specs.Judged.{refusedIn, refuses}
+use Rattle.calls.specs.Unjudged.{appendedTo, carrying, applyEnableOf, applyDisableOf, applyAddOf}
 
--- a call that gives back what it was given
-pub left-refused : {r : Answered} {reply : Reply} {o : Outcome} (s : State) → r ≡ givenBack reply (s .header) (s .storage .flows)
-    → o ≡ record { answer = answerOf reply; state = s } → leftBy r (s .storage .tags) (s .storage .policies) (s .storage .policyCounts) ≡ o
-left-refused s e p = ap (λ (r : Answered). leftBy r (s .storage .tags) (s .storage .policies) (s .storage .policyCounts)) e ∙ sym p
+-- a call that gives back what it was given, where `table` takes the records to the flow table
+pub left-refused : {r : Change} {reply : Reply} {o : Outcome} {flows : List Flow} (s : State) (table : List Flow → List Flow) → table flows ≡ s .storage .flows
+    → r ≡ unchanged reply (s .header) flows → o ≡ record { answer = answerOf reply; state = s }
+    → leftBy (r .answered) (s .storage .tags) (s .storage .policies) (s .storage .policyCounts) (table (r .flows)) ≡ o
+left-refused {reply = reply} s table t e p =
+    ap (λ (r : Change). leftBy (r .answered) (s .storage .tags) (s .storage .policies) (s .storage .policyCounts) (table (r .flows))) e
+    ∙ ap (leftBy (givenBack reply (s .header)) (s .storage .tags) (s .storage .policies) (s .storage .policyCounts)) t ∙ sym p
 
 -- ENABLING
 
@@ -78,7 +81,7 @@ module _ (s : State) (f : Flow) where
           pub enables : s .header .count < 512 → {table : List Flow} {tags : List ℕ} {gain : ℕ} → table ≡ set (s .storage .flows) (s .header .count) f
               → tags ≡ setsAfter (s .header .containers) (take (s .header .count + 1) table) (s .storage .tags)
               → gain ≡ pairsAdded (s .header .containers) (take (s .header .count + 1) table) (s .storage .tags)
-              → leftBy (givenBack (Accepted gain) (record { containers = s .header .containers; count = s .header .count + 1; greatest = f .number }) table) tags (s .storage .policies) (s .storage .policyCounts)
+              → leftBy (givenBack (Accepted gain) (record { containers = s .header .containers; count = s .header .count + 1; greatest = f .number })) tags (s .storage .policies) (s .storage .policyCounts) table
               ≡ applyEnableOf s f
           unfolding applyEnableOf enableLater decided appendedTo carrying
           enables e p q r =
@@ -104,7 +107,7 @@ module _ (s : State) (k : ℕ) where
   -- the work
   pub disables : {place : ℕ} {table : List Flow} → length (s .storage .flows) ≡ 512 → At place ≡ foundIn k (flowsOf s)
       → table ≡ removedAt place (s .header .count) (s .storage .flows)
-      → leftBy (givenBack (Accepted 0) (record { containers = s .header .containers; count = s .header .count - 1; greatest = s .header .greatest }) table) (s .storage .tags) (s .storage .policies) (s .storage .policyCounts)
+      → leftBy (givenBack (Accepted 0) (record { containers = s .header .containers; count = s .header .count - 1; greatest = s .header .greatest })) (s .storage .tags) (s .storage .policies) (s .storage .policyCounts) table
       ≡ applyDisableOf s k
   unfolding applyDisableOf disableLater decided
   disables {place} long a p =
@@ -139,6 +142,6 @@ module _ (s : State) (c : ℕ) (p : TagSet) where
       -- the work
       pub adds : policyCount s c < 4 → {policies counts : List ℕ} → policies ≡ putSet (s .storage .policies) (4 * c + policyCount s c) p
           → counts ≡ set (s .storage .policyCounts) c (policyCount s c + 1)
-          → leftBy (givenBack (Accepted 0) (s .header) (s .storage .flows)) (s .storage .tags) policies counts ≡ applyAddOf s c p
+          → leftBy (givenBack (Accepted 0) (s .header)) (s .storage .tags) policies counts (s .storage .flows) ≡ applyAddOf s c p
       unfolding applyAddOf addLater decided adding
       adds d q r = simp (lt-leb (s .header .containers) c a, b, lt-leb 4 (policyCount s c) d) (rw (q, r) refl)

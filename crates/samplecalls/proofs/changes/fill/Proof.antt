@@ -1,16 +1,16 @@
--- `samplecalls::calls::fill` ends. The invariant: the lent list keeps its length. The measure is the flows left. Assumes nothing.
+-- `samplecalls::changes::fill` ends. The invariant: the lent list keeps its length. The measure is the flows left. Assumes nothing.
 use mathlib.Core.Path.{_≡_}
 use Prim.Native.Nat.{_-_}
 use lib.ListN.{length}
 use borrow.Author.Needs.{needs}
-use Rattle.samplecalls.proofs.calls.fill.Statement.{statement}
-use Rattle.samplecalls.proofs.calls.fill.Tie as tie
+use Rattle.samplecalls.proofs.changes.fill.Statement.{statement}
+use Rattle.samplecalls.proofs.changes.fill.Tie as tie
 
 abbrev Inv-loop : tie.InvT-loop
-Inv-loop now₀ tags₀ policies counts n k₀ now tags k = length tags ≡ length tags₀
+Inv-loop now₀ tags₀ policies counts n lent k₀ now tags k = length tags ≡ length tags₀
 
 abbrev μ-loop : tie.MeasureT-loop
-μ-loop now₀ tags₀ policies counts n k₀ now tags k = n - k
+μ-loop now₀ tags₀ policies counts n lent k₀ now tags k = n - k
 
 small-requires : tie.Need-small-requires Inv-loop μ-loop
 small-requires c κs = search needs
@@ -18,8 +18,8 @@ small-requires c κs = search needs
 loop-holds : tie.Need-loop-holds Inv-loop μ-loop
 loop-holds c = search needs
 
-add-t13 : tie.Need-add-t13 Inv-loop μ-loop
-add-t13 c = search needs
+add-number : tie.Need-add-number Inv-loop μ-loop
+add-number c = search needs
 
 enable-requires : tie.Need-enable-requires Inv-loop μ-loop
 enable-requires c κs = search needs
@@ -47,7 +47,7 @@ fill-spec =
     μ-loop
     small-requires
     loop-holds
-    add-t13
+    add-number
     enable-requires
     add-k
     loop-less

@@ -4,52 +4,42 @@ use mathlib.Core.List.{List}
 use Prim.Native.Nat.{ℕ}
 use native.Mathlib.Omega.{arith}
 use borrow.Author.Needs.{needs}
+use Rattle.model.specs.declared.Flow.{Flow}
 use Rattle.state.specs.State.{State, stateOf}
 use Rattle.tagstore.specs.Laws.{store-whole}
-use Rattle.tracker.specs.UnjudgedBranches.{left-refused, no-container, unknown-tag, policy-full, adds}
-use Rattle.tracker.proofs.apply_add.Statement.{statement}
-use Rattle.tracker.proofs.apply_add.Tie as tie
+use Rattle.calls.specs.UnjudgedBranches.{no-container, unknown-tag, policy-full, adds}
+use Rattle.calls.proofs.apply_add.Statement.{statement}
+use Rattle.calls.proofs.apply_add.Tie as tie
 
--- the state that the call is given, for any tag sets
-abbrev at : tie.Start → List ℕ → State
-at c tags = stateOf (c .args .header) tags (c .args .policies .now) (c .args .counts .now) (c .args .flows)
-
-refused-requires : tie.Need-refused-requires
-refused-requires c κs = search needs
+-- the state that the call is given, for any tag sets and any table
+abbrev at : tie.Start → List ℕ → List Flow → State
+at c tags flows = stateOf (c .args .header) tags (c .args .policies .now) (c .args .counts .now) flows
 
 returns : tie.Need-returns
 returns c =
-    let x = c .before .before .before .before .before in
-    λ tags. left-refused (at x tags) (c .refused .ensures) (no-container (at x tags) (x .args .container) (x .args .policy) (omega arith))
+    let x = c .before .before .before .before in
+    λ tags flows. sym (no-container (at x tags flows) (x .args .container) (x .args .policy) (omega arith))
 
 exceeds-requires : tie.Need-exceeds-requires
 exceeds-requires c κs = search needs
 
-refused-requires-2 : tie.Need-refused-requires-2
-refused-requires-2 c κs = search needs
-
 returns-2 : tie.Need-returns-2
 returns-2 c =
-    let e1 = c .before .before .before in
+    let e1 = c .before .before in
     let x = e1 .before .before .before .before in
-    λ tags.
-    left-refused (at x tags) (c .refused2 .ensures)
-    (unknown-tag (at x tags) (x .args .container) (x .args .policy) (e1 .if1 .left) (sym (c .before .before .exceeds .ensures) ∙ c .before .if2 .taken))
+    λ tags flows.
+    sym (unknown-tag (at x tags flows) (x .args .container) (x .args .policy) (e1 .if1 .left) (sym (c .before .exceeds .ensures) ∙ c .if2 .taken))
 
 slice-read-k : tie.Need-slice-read-k
 slice-read-k c = search needs
 
-refused-requires-3 : tie.Need-refused-requires-3
-refused-requires-3 c κs = search needs
-
 returns-3 : tie.Need-returns-3
 returns-3 c =
-    let e2 = c .before .before .before in
+    let e2 = c .before .before in
     let e1 = e2 .before .before in
     let x = e1 .before .before .before .before in
-    λ tags.
-    left-refused (at x tags) (c .refused3 .ensures)
-    (policy-full (at x tags) (x .args .container) (x .args .policy) (e1 .if1 .left) (sym (e2 .before .exceeds .ensures) ∙ e2 .if2 .left) (omega arith))
+    λ tags flows.
+    sym (policy-full (at x tags flows) (x .args .container) (x .args .policy) (e1 .if1 .left) (sym (e2 .before .exceeds .ensures) ∙ e2 .if2 .left) (omega arith))
 
 mul-store-set : tie.Need-mul-store-set
 mul-store-set c = search needs
@@ -81,21 +71,18 @@ returns-4 c =
     let e2 = e3 .before .before in
     let e1 = e2 .before .before in
     let x = e1 .before .before .before .before in
-    λ tags.
-    adds (at x tags) (x .args .container) (x .args .policy) (e1 .if1 .left) (sym (e2 .before .exceeds .ensures) ∙ e2 .if2 .left) (omega arith)
+    λ tags flows.
+    adds (at x tags flows) (x .args .container) (x .args .policy) (e1 .if1 .left) (sym (e2 .before .exceeds .ensures) ∙ e2 .if2 .left) (omega arith)
     (c .before .before .store-set .ensures ∙ store-whole (x .args .policies .now) _ (x .args .policy) (omega arith)) refl
 
 pub apply-add-spec : {M : Type 1} → statement M
 apply-add-spec =
     tie.close
     (tie.spec
-    refused-requires
     returns
     exceeds-requires
-    refused-requires-2
     returns-2
     slice-read-k
-    refused-requires-3
     returns-3
     mul-store-set
     cast-store-set

@@ -1,0 +1,107 @@
+-- What is judged decides between 9, 12 and `apply_enable`, which on a usable state has the same outcome. Assumes nothing.
+use mathlib.Core.Path.{_≡_, refl, sym, ap, _∙_}
+use mathlib.Core.List.{List}
+use lib.ListN.{length, take}
+use borrow.Author.Needs.{needs}
+use Rattle.model.specs.declared.Flow.{Flow}
+use Rattle.state.specs.State.{State, stateOf}
+use Rattle.state.specs.Judging.{judged-usable}
+use Rattle.validity.specs.Judge.{judgementOf}
+use Rattle.calls.specs.Unjudged.{applyEnableOf}
+use Rattle.calls.specs.UnjudgedLaws.{apply-enable}
+use Rattle.calls.specs.Judged.{enable-judged}
+use Rattle.calls.specs.Stored.{refused-stored, left-lent}
+use Rattle.calls.specs.UnjudgedBranches.{left-refused}
+use Rattle.calls.proofs.enable.Statement.{statement}
+use Rattle.calls.proofs.enable.Tie as tie
+
+-- the state with this table
+abbrev with : tie.Start → List Flow → State
+with c flows = stateOf (c .args .header) (c .args .tags .now) (c .args .policies .now) (c .args .counts .now) flows
+
+-- the state that the call is given
+abbrev at : tie.Start → State
+at c = with c (take (c .args .length) (c .args .flows))
+
+-- the array has 512 records
+long : (c : tie.Start) → length (c .args .flows) ≡ 512
+long c = search needs
+
+judge-requires : tie.Need-judge-requires
+judge-requires c κs = search needs
+
+enum-told : tie.Need-enum-told
+enum-told c = search needs
+
+refused-requires : tie.Need-refused-requires
+refused-requires c κs = search needs
+
+enum-told-2 : tie.Need-enum-told-2
+enum-told-2 c = search needs
+
+refused-requires-2 : tie.Need-refused-requires-2
+refused-requires-2 c κs = search needs
+
+enum-told-3 : tie.Need-enum-told-3
+enum-told-3 c = search needs
+
+apply-enable-requires : tie.Need-apply-enable-requires
+apply-enable-requires c κs = search needs
+
+same-length : tie.Need-same-length
+same-length c = search needs
+
+returns : tie.Need-returns
+returns c =
+    let j = c .before .before .before in
+    let x = j .before .before .before .before .before in (
+      left-refused (at x) (take (x .args .length)) refl (c .refused .ensures)
+          (enable-judged (at x) (x .args .flow) 8 (sym (j .judge .ensures) ∙ ap judgementOf (c .before .enum-told .given .1))),
+      refused-stored (x .args .flows) (c .refused .ensures),
+    )
+
+same-length-2 : tie.Need-same-length-2
+same-length-2 c = search needs
+
+returns-2 : tie.Need-returns-2
+returns-2 c =
+    let j = c .before .before .before in
+    let x = j .before .before .before .before .before in (
+      left-refused (at x) (take (x .args .length)) refl (c .refused2 .ensures)
+          (enable-judged (at x) (x .args .flow) 11 (sym (j .judge .ensures) ∙ ap judgementOf (c .before .enum-told2 .given .1))),
+      refused-stored (x .args .flows) (c .refused2 .ensures),
+    )
+
+same-length-3 : tie.Need-same-length-3
+same-length-3 c = search needs
+
+returns-3 : tie.Need-returns-3
+returns-3 c =
+    let j = c .before .before .before .before .before .before in
+    let x = j .before .before .before .before .before in
+    let told = c .before .before .before .before .enum-told3 .given .1 in
+    let u = judged-usable (at x) (sym (j .judge .ensures) ∙ ap judgementOf told) in
+    let done = c .before .before .apply-enable in (
+      left-lent (x .args .flows) (long x) (x .args .length) (done .result) (λ fs. applyEnableOf (with x fs) (x .args .flow)) (u .sized .records)
+          (done .ensures .0 (x .args .policies .now) (x .args .counts .now)) (done .ensures .1)
+          ∙ apply-enable (at x) u (x .args .flow) (λ k. j .before .before .before .before .slice-known .given k .fits),
+      done .ensures .1,
+    )
+
+pub enable-spec : {M : Type 1} → statement M
+enable-spec =
+    tie.close
+    (tie.spec
+    judge-requires
+    enum-told
+    refused-requires
+    enum-told-2
+    refused-requires-2
+    enum-told-3
+    apply-enable-requires
+    same-length
+    returns
+    same-length-2
+    returns-2
+    same-length-3
+    returns-3)

@@ -1,0 +1,6 @@
+pub mod Replies
+pub mod Unjudged
+pub mod UnjudgedLaws
+pub mod Judged
+pub mod Stored
+pub mod UnjudgedBranches

@@ -1,0 +1,63 @@
+"""Writes the walks of the public calls (crates/tracker). Run from the repository's root, with the output of `rt mir tracker` on the standard input; then `rt fmt`."""
+import sys
+
+import straight as walks
+
+ROOT = "crates/tracker"
+walks.STRUCTS|={'question::Tags','state::Header','model::Flow','tagset::TagSet','calls::Answered','calls::Change','replay::Replayed','replay::Run'}
+F=['tyNamed',['pair','"model::Flow"','lnil']]; N=lambda q:['tyNamed',['pair','"%s"'%q,'lnil']]; U=['tyInt','64']; AR=['tyArray',F,['lenLit','512']]
+walks.FIELDS={'calls::Change':[(N('calls::Answered'),'answered'),(U,'first'),(U,'end'),(AR,'flows')],'replay::Run':[(N('replay::Replayed'),'replayed'),(U,'end'),(AR,'flows')]}
+t = sys.stdin.read()
+LOAD=dict(alias="load-it",cname='Load',facts=lambda a,r,f:[f'{r} ≡ loadedFrom {a[0]}'])
+STORE=dict(alias='store-it',cname='Store',facts=lambda a,r,f:[f'{f["flows"]} ≡ storedIn {a[1]} {a[2]} {a[3]} {a[0]}'])
+def core(facts): return dict(alias='core',cname='Core',facts=facts)
+def same(r,rows): return f'storedIn ({r} .first) ({r} .end) ({r} .flows) {rows} ≡ {r} .flows'
+def st(fs,tags='l-tags',pol='l-policies',cnt='l-counts'): return f'stateOf v-header {tags} {pol} {cnt} {fs}'
+FRONT='use Rattle.front.specs.Front.{%s}\n'; LENT='use Rattle.tracker.specs.Lent.{%s}\n'
+SL='use Rattle.flowslice.specs.Slice.{loadedFrom, storedIn}\n'; SL1='use Rattle.flowslice.specs.Slice.{loadedFrom}\n'
+def go(fn,names,corename,C,said,goal,uses,doc):
+    cal={'flowslice::load':LOAD,'flowslice::store':STORE,corename:C}
+    walks.gen(t,'tracker',fn,names,cal,said,f'{ROOT}/proofs/{fn}/Proof.antt',doc,dict(goal=goal,uses=uses))
+def doc(fn,how): return f'`tracker::{fn}` meets its contract: a walk of its MIR, by hand. {how} All that is known of the functions called is their\n-- contracts; specs/Lent.antt puts these together. Assumes nothing.'
+LEND='The table is lent as a `&` to `load` and as a `&mut` to `store`, and comes back each time.'
+READ='The table goes to `load` at its own lifetime.'
+CALLED='called l-flows e0-load-it (r-core .first) (r-core .end) (r-core .flows) e1-core e0-store-it (λ (fs : List Flow). %s) (λ fs. %s) (r-core .answered) %s e0-core'
+RO='use Rattle.state.specs.State.{%s}\nuse Rattle.outcome.specs.Outcome.{%s}\nuse Rattle.calls.specs.Replies.{leftBy}\n'
+# start
+w=lambda i:f'(ws-core {walks.dot(i)})'
+go('start',['n','tags','policies','counts','flows'],'calls::start',
+  core(lambda a,r,f:[f'leftBy ({r} .answered) {f["tags"]} {f["policies"]} {f["counts"]} (take {a[4]} ({r} .flows)) ≡ startOf {a[0]} (storageOf {a[1]} {a[2]} {a[3]} (take {a[4]} {a[5]}))',same(r,a[5])]),
+  CALLED%('startOf v-n (storageOf l-tags l-policies l-counts fs)','start-front v-n (storageOf l-tags l-policies l-counts fs)',f'{w(1)} {w(2)} {w(3)}'),
+  lambda r,z:[f'leftBy {r} {z["tags"]} {z["policies"]} {z["counts"]} {z["flows"]} ≡ startOf v-n (storageOf l-tags l-policies l-counts l-flows)'],
+  RO%('storageOf','startOf')+SL+FRONT%'start-front'+LENT%'called',doc('start',LEND))
+go('enable',['header','tags','policies','counts','flows','flow'],'calls::enable',
+  core(lambda a,r,f:[f'leftBy ({r} .answered) {f["tags"]} {a[2]} {a[3]} (take {a[4]} ({r} .flows)) ≡ enableOf (stateOf {a[0]} {a[1]} {a[2]} {a[3]} (take {a[4]} {a[5]})) {a[6]}',same(r,a[5])]),
+  CALLED%(f'enableOf ({st("fs")}) v-flow',f'enable-front ({st("fs")}) v-flow',f'{w(1)} l-policies l-counts'),
+  lambda r,z:[f'leftBy {r} {z["tags"]} l-policies l-counts {z["flows"]} ≡ enableOf ({st("l-flows")}) v-flow'],
+  RO%('stateOf','enableOf')+SL+FRONT%'enable-front'+LENT%'called',doc('enable',LEND))
+go('disable',['header','tags','policies','counts','flows','number'],'calls::disable',
+  core(lambda a,r,f:[f'leftBy ({r} .answered) {a[1]} {a[2]} {a[3]} (take {a[4]} ({r} .flows)) ≡ disableOf (stateOf {a[0]} {a[1]} {a[2]} {a[3]} (take {a[4]} {a[5]})) {a[6]}',same(r,a[5])]),
+  CALLED%(f'disableOf ({st("fs")}) v-number',f'disable-front ({st("fs")}) v-number','l-tags l-policies l-counts'),
+  lambda r,z:[f'leftBy {r} l-tags l-policies l-counts {z["flows"]} ≡ disableOf ({st("l-flows")}) v-number'],
+  RO%('stateOf','disableOf')+SL+FRONT%'disable-front'+LENT%'called',doc('disable',LEND))
+go('add_policy',['header','tags','policies','counts','flows','container','policy'],'calls::add_policy',
+  core(lambda a,r,f:[f'leftBy {r} {a[1]} {f["policies"]} {f["counts"]} (take {a[4]} {a[5]}) ≡ addOf (stateOf {a[0]} {a[1]} {a[2]} {a[3]} (take {a[4]} {a[5]})) {a[6]} {a[7]}']),
+  f'kept l-flows e0-load-it (λ (fs : List Flow). addOf ({st("fs")}) v-container v-policy) (λ fs. add-front ({st("fs")}) v-container v-policy) r-core l-tags {w(2)} {w(3)} e0-core',
+  lambda r,z:[f'leftBy {r} l-tags {z["policies"]} {z["counts"]} l-flows ≡ addOf ({st("l-flows")}) v-container v-policy'],
+  RO%('stateOf','addOf')+SL1+FRONT%'add-front'+LENT%'kept',doc('add_policy',READ))
+for fn,reply,of,front in (('tags_of','tagsReply','tagsOf','tags-front'),('size_of','sizeReply','sizeAsked','size-front'),('is_legal','legalReply','legalOf','legal-front')):
+    go(fn,['header','tags','policies','counts','flows','container'],f'question::{fn}',
+      core(lambda a,r,f:[f'{reply} {r} ≡ {of} (stateOf {a[0]} {a[1]} {a[2]} {a[3]} (take {a[4]} {a[5]})) {a[6]}']),
+      f'asked l-flows e0-load-it (λ (fs : List Flow). {of} ({st("fs")}) v-container) (λ fs. {front} ({st("fs")}) v-container) e0-core',
+      lambda r,z:[f'{reply} {r} ≡ {of} ({st("l-flows")}) v-container'],
+      'use Rattle.state.specs.State.{stateOf}\nuse Rattle.question.specs.Question.{%s}\nuse Rattle.question.specs.Replies.{%s}\n'%(of,reply)+SL1+FRONT%front+LENT%'asked',doc(fn,READ))
+go('rank',['header','tags','policies','counts','flows','out'],'ranking::rank',
+  core(lambda a,r,f:[f'rankedReply {r} ≡ rankOf (stateOf {a[0]} {a[1]} {a[2]} {a[3]} (take {a[4]} {a[5]})) {a[6]} .refusal',f'{f["out"]} ≡ rankOf (stateOf {a[0]} {a[1]} {a[2]} {a[3]} (take {a[4]} {a[5]})) {a[6]} .output']),
+  '('+', '.join(f'asked l-flows e0-load-it (λ (fs : List Flow). rankOf ({st("fs")}) l-out .{x}) (λ fs. ap (λ (a : Ranking). a .{x}) (rank-front ({st("fs")}) l-out)) e{i}-core' for i,x in enumerate(('refusal','output')))+')',
+  lambda r,z:[f'rankedReply {r} ≡ rankOf ({st("l-flows")}) l-out .refusal',f'{z["out"]} ≡ rankOf ({st("l-flows")}) l-out .output'],
+  'use Rattle.state.specs.State.{stateOf}\nuse Rattle.ranking.specs.Ranking.{Ranking, rankOf}\nuse Rattle.ranking.specs.Replies.{rankedReply}\n'+SL1+FRONT%'rank-front'+LENT%'asked',doc('rank',READ))
+go('replay',['bytes','tags','policies','counts','flows'],'replay::replay',
+  core(lambda a,r,f:[f'replayBy ({r} .replayed) {f["tags"]} {f["policies"]} {f["counts"]} (take {a[4]} ({r} .flows)) ≡ replayOf {a[0]} (storageOf {a[1]} {a[2]} {a[3]} (take {a[4]} {a[5]}))',f'storedIn 0 ({r} .end) ({r} .flows) {a[5]} ≡ {r} .flows']),
+  'replayed l-flows e0-load-it 0 (r-core .end) (r-core .flows) e1-core e0-store-it (λ (fs : List Flow). replayOf l-bytes (storageOf l-tags l-policies l-counts fs)) (λ fs. replay-front l-bytes (storageOf l-tags l-policies l-counts fs)) (r-core .replayed) '+f'{w(1)} {w(2)} {w(3)} e0-core',
+  lambda r,z:[f'replayBy {r} {z["tags"]} {z["policies"]} {z["counts"]} {z["flows"]} ≡ replayOf l-bytes (storageOf l-tags l-policies l-counts l-flows)'],
+  'use Rattle.state.specs.State.{storageOf}\nuse Rattle.replay.specs.Replay.{replayOf}\nuse Rattle.replay.specs.Replies.{replayBy}\n'+SL+FRONT%'replay-front'+LENT%'replayed',doc('replay',LEND))
