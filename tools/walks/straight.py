@@ -176,7 +176,10 @@ def gen(t,crate,fn,names,cal,said,out,doc,extra,exits_params='',facts=1):
         if T.kind!='array': return T,d,pf,f'{T.vals} {d}'
         ve=f'(valss (fields {S0.name}-T.the-type) (LL.spells ({S0.name}-T.the-type .parts) {S0.name}-L.the-laws) ({S0.name}-T.the-type .to {den[k]}) {dot(j)})'
         return T,d,f'(rows-at {d} {T.n} {ve} {pf})',ve
-    opens=0
+    def cur(n): return f's-{n}' if lenproof[n]=='refl' else f'(sliceVal (b-{n}, o-{n}) (length {now[n]}))'
+    def room(n,E): return f'room-{n}' if lenproof[n]=='refl' else f'(room-of {E} (length l-{n}) {now[n]} {lenproof[n]} room-{n})'
+    def resized(n,PT,z,e):   # what a slice owns, at another proof of its length
+        if lenproof[n]!='refl': c.e(f'rewrite ! {{own-{n}}} (λ (n : ℕ). ‵ ({own(n,PT,"κ-"+n,f"(r-{n} γ-{n} {z})").replace(f"(s-{n} ∷ [])",f"(sliceVal (b-{n}, o-{n}) n ∷ [])")})) {e} refl $').nl()
     for s in stm:
         if s=='return': continue
         if s[0]=='assign':
@@ -195,6 +198,7 @@ def gen(t,crate,fn,names,cal,said,out,doc,extra,exits_params='',facts=1):
                 a=lst(rv[1]); ptr,_=place(a[0][1]); sk,_=place(a[1][1]); n=P[sk-1][0]
                 c.e(f'assigns ! (agg ! (and-then ! {opd(a[0])} (and-then ! {opd(a[1])} (no-more !)))) (from ! (stop !)) (init ! {{_{k}}} refl (tt, (tt, (record {{ fits = room-{n} .0 }}, tt)))) $').nl()
                 rebor[k]=n
+                if lenproof[n]!='refl': c.e(f'rewrite ! {{_{k}}} (λ (n : ℕ). ‵ (fat fullShare (typeOf mir′.locals {k}) {block(k)} 0 (sliceVal (b-{n}, o-{n}) n))) (sym {lenproof[n]}) refl $').nl()
             else:
                 o=rv[1]; sk,pr=place(o[1])
                 if lt[sk].kind=='slice':
@@ -226,7 +230,7 @@ def gen(t,crate,fn,names,cal,said,out,doc,extra,exits_params='',facts=1):
                 a['lft']=f'κ-{n}'; a['sh']=f'q-{n}'; a['name']=f'γ-{n}'; a['tok']=f'tok-{n}'; a['pass']=f'pass-{n}'
             else:
                 v=f'ν-{a["j"]}'; dl=f'δ-{a["j"]}'; mut=a['T'].slice=='mut'
-                lentown=f'{"MutSlice" if mut else "ShrSlice"} (named {a["k"]}) ({v} ∷ []) {E} .own (r-{n} {dl} {now[n]}) (s-{n} ∷ [])'
+                a['cur']=cur(n); lentown=f'{"MutSlice" if mut else "ShrSlice"} (named {a["k"]}) ({v} ∷ []) {E} .own (r-{n} {dl} {now[n]}) ({cur(n)} ∷ [])'; resized(n,PT,now[n],f'(sym {lenproof[n]})')
                 keepi=f'LentAgain {E} κ-{n} ({v} ∷ []) q-{n} γ-{n} b-{n} o-{n} {dl} {now[n]}' if mut else f'LentShared {E} κ-{n} ({v} ∷ []) q-{n} γ-{n} b-{n} o-{n} {now[n]}'
                 c.e(f'lft-new ! tt (λ {v}.').head(0,[v]).move(f'own-{n}',f'tok-{n}').e(f'use2 W (later (some (λ ({dl} : GName). ‵ ({lentown}) ⊛ ‵ ({keepi})))) ({"lends-again" if mut else "lends-shared"} {E} κ-{n} ({v} ∷ []) q-{n} γ-{n} b-{n} o-{n} 𝓤 H A W (named {PT.lft}) (named {a["k"]}) {now[n]}) $ await ! tt $ pick ! (λ {dl}. split ! $').head(2,[f'pass-{n}',f'kept-{n}']).nl()
                 a['lft']=f'({v} ∷ [])'; a['sh']='fullShare'; a['name']=dl; a['tok']=v; a['pass']=f'pass-{n}'; a['mut']=mut
@@ -239,7 +243,7 @@ def gen(t,crate,fn,names,cal,said,out,doc,extra,exits_params='',facts=1):
             else:
                 c.move('ow').e(f'owned ! {a["T"].row} (Is {a["T"].row}) ({a["T"].makes}) {a["d"]} ({a["ve"]}) {a["pf"]} $ fjoin ! $').head(1,['ow'])
         c.nl()
-        kt=tup([a['lft'] for a in sl]); qt=tup([a['sh'] for a in sl]); xt=tup([a.get('ref') or f'r-{a["n"]} {a["name"]} {now[a["n"]]}' if a['sl'] else a['d'] for a in A]); vt=tup([(f'{a["val"]} ∷ []' if 'arr' in a else f's-{a["n"]} ∷ []') if a['sl'] else a["ve"] for a in A])
+        kt=tup([a['lft'] for a in sl]); qt=tup([a['sh'] for a in sl]); xt=tup([a.get('ref') or f'r-{a["n"]} {a["name"]} {now[a["n"]]}' if a['sl'] else a['d'] for a in A]); vt=tup([(f'{a["val"]} ∷ []' if 'arr' in a else f'{a.get("cur","s-"+a["n"])} ∷ []') if a['sl'] else a["ve"] for a in A])
         gh=f'(({kt}, {qt}, tt, {xt}, {vt}), tt)'
         CT=f'({C["cname"]} 𝓤 H A mem run)'
         c.move('al','ow').e(f'use2 W (raw ({CT} .pre {gh})) (asks-nothing 𝓤 _) $').head(2,['pre']).nl()
@@ -291,11 +295,13 @@ def gen(t,crate,fn,names,cal,said,out,doc,extra,exits_params='',facts=1):
                 continue
             n=a['n']; E=a['PT'].elem.row; PT=a['PT']
             if a['mut']:
-                z=fin[n]; lp=f'len-{al}-{n}'; 
-                c.move(a['tok']).e('lft-end ! tt $').move(a['tok'],f'kept-{n}',f'fin-{n}').e(f'use3 W (later (‵ ({own(n,PT,"κ-"+n,f"(r-{n} γ-{n} {z})")}) ⊛ ‵ (flft κ-{n} q-{n}))) (comes-back {E} κ-{n} {a["lft"]} q-{n} γ-{n} b-{n} o-{n} 𝓤 H A W (named {PT.lft}) (named {a["k"]}) {now[n]} {a["name"]} {z} room-{n} {lp}) $ await ! tt $ split ! $').head(3,[f'own-{n}',f'tok-{n}']).nl()
-                now[n]=z; lenproof[n]=lp
+                z=fin[n]; lp=f'len-{al}-{n}'
+                c.move(a['tok']).e('lft-end ! tt $').move(a['tok'],f'kept-{n}',f'fin-{n}').e(f'use3 W (later (‵ ({own(n,PT,"κ-"+n,f"(r-{n} γ-{n} {z})").replace(f"(s-{n} ∷ [])",f"({cur(n)} ∷ [])")}) ⊛ ‵ (flft κ-{n} q-{n}))) (comes-back {E} κ-{n} {a["lft"]} q-{n} γ-{n} b-{n} o-{n} 𝓤 H A W (named {PT.lft}) (named {a["k"]}) {now[n]} {a["name"]} {z} {room(n,E)} {lp}) $ await ! tt $ split ! $').head(3,[f'own-{n}',f'tok-{n}']).nl()
+                resized(n,PT,z,lenproof[n])
+                now[n]=z; lenproof[n]=lp if lenproof[n]=='refl' else f'({lp} ∙ {lenproof[n]})'
             else:
-                c.move(a['tok']).e('lft-end ! tt $').move(a['tok'],f'kept-{n}').e(f'use2 W (later (‵ ({own(n,PT,"κ-"+n,f"(r-{n} γ-{n} {now[n]})")}) ⊛ ‵ (flft κ-{n} q-{n}))) (shared-back {E} κ-{n} {a["lft"]} q-{n} γ-{n} b-{n} o-{n} 𝓤 H A W (named {PT.lft}) (named {a["k"]}) {now[n]} room-{n}) $ await ! tt $ split ! $').head(2,[f'own-{n}',f'tok-{n}']).nl()
+                c.move(a['tok']).e('lft-end ! tt $').move(a['tok'],f'kept-{n}').e(f'use2 W (later (‵ ({own(n,PT,"κ-"+n,f"(r-{n} γ-{n} {now[n]})").replace(f"(s-{n} ∷ [])",f"({cur(n)} ∷ [])")}) ⊛ ‵ (flft κ-{n} q-{n}))) (shared-back {E} κ-{n} {a["lft"]} q-{n} γ-{n} b-{n} o-{n} 𝓤 H A W (named {PT.lft}) (named {a["k"]}) {now[n]} {room(n,E)}) $ await ! tt $ split ! $').head(2,[f'own-{n}',f'tok-{n}']).nl()
+                resized(n,PT,now[n],lenproof[n])
         calls.append((name,al,C))
     # the end
     for k in arr: back(k)
@@ -327,6 +333,7 @@ def gen(t,crate,fn,names,cal,said,out,doc,extra,exits_params='',facts=1):
     goal=extra['goal']('r',{n:(f'z-{n}' if T.slice=='mut' else f'l-{n}') for n,T,i in S})
     goalT=' × '.join(f'({g})' for g in goal) if len(goal)>1 else (goal+['Unit {0}'])[0]
     says=['suffices ! _ (asks-nothing 𝓤 _)','says ! e','says-both ! (e .0) (e .1)'][len(goal)]
+    home='Rattle.tracker.proofs' if crate=='tracker' else 'Rattle.tracker.proofs'   # what all walks share
     K=fn.replace('_','-'); KEY=f'#{crate}·{K}'
     tele=f'({" ".join("κ-"+n for n,T,i in S)} : Lft) ({" ".join("q-"+n for n,T,i in S)} : Share)'
     for n,T,i in P:
@@ -367,9 +374,9 @@ def gen(t,crate,fn,names,cal,said,out,doc,extra,exits_params='',facts=1):
     rows=''.join(f'abbrev Row{n} : RattleType\nRow{n} = Array Flow-T.the-row {n}\n\n' for n in sorted(ARRAYS))
     HEAD0='{M : Type 1} (𝓤 : URA M) (H : Heap 𝓤) (A : Atoms 𝓤) (W : Given 𝓤 H A) (mem : Memory → SProp 𝓤) (run : Routine → Fun 𝓤)'
     text=f'''-- {doc}
-{HEAD}{uses}{extra['uses']}{cuses}use Rattle.{crate}.proofs.Calls.{{typeOf, asks-nothing, says-both, known-at, rows-at}}
-use Rattle.{crate}.proofs.Again.{{LentAgain, lends-again, comes-back}}
-use Rattle.{crate}.proofs.Shared.{{LentShared, lends-shared, shared-back}}
+{HEAD}{uses}{extra['uses']}{cuses}use {home}.Calls.{{typeOf, asks-nothing, says-both, known-at, rows-at, room-of}}
+use {home}.Again.{{LentAgain, lends-again, comes-back}}
+use {home}.Shared.{{LentShared, lends-shared, shared-back}}
 use Rattle.{crate}.proofs.{fn}.Key.{{name as {KEY}}}
 use Rattle.{crate}.proofs.{fn} as this
 use Rattle.{crate}.proofs.{fn}.Statement as stated

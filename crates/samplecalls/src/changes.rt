@@ -99,7 +99,7 @@ pub fn fill(a: Numbers, mut now: Now, tags: &mut [u64], policies: &[u64], counts
 }
 
 // Prints what a call answers (that it is accepted, with its gain, or the refusal), and gives back the tracker of now on.
-fn told(answered: Answered, flows: [Flow; 512], length: usize) -> Now {
+pub fn told(answered: Answered, flows: [Flow; 512], length: usize) -> Now {
     let reply = answered.reply;
     match reply {
         Reply::Accepted(gain) => named(b": accepted, gain ", gain as u64),

@@ -157,6 +157,7 @@ fn first_byte(command: Command) -> usize {
         Command::Item => 1,
         Command::Short => 1,
         Command::Decode => 2,
+        Command::Lent => 3,
         Command::Judge => 4,
         _ => 0,
     }
@@ -181,6 +182,7 @@ fn change(
         Command::Flow => pokes::flow(a, now),
         Command::Header => pokes::header(a, now),
         Command::Replay => runs::replay_log(s, now, tags, policies, counts),
+        Command::Lent => runs::lent(a, s, now, tags, policies, counts),
         Command::Tally => runs::tally(s, now.length, tags, policies, counts),
         Command::Short => runs::short(a, s, now.length, tags, policies, counts),
         Command::Large => large::large(a, now, tags, policies, counts),
