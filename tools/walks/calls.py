@@ -4,9 +4,9 @@ import sys
 import straight as walks
 
 ROOT = "crates/tracker"
-walks.STRUCTS|={'question::Tags','state::Header','model::Flow','tagset::TagSet','calls::Answered','calls::Change','replay::Replayed','replay::Run'}
+walks.STRUCTS|={'question::Tags','state::Header','model::Flow','tagset::TagSet','calls::Answered','calls::Change','replay::Replayed','replay::Played'}
 F=['tyNamed',['pair','"model::Flow"','lnil']]; N=lambda q:['tyNamed',['pair','"%s"'%q,'lnil']]; U=['tyInt','64']; AR=['tyArray',F,['lenLit','512']]
-walks.FIELDS={'calls::Change':[(N('calls::Answered'),'answered'),(U,'first'),(U,'end'),(AR,'flows')],'replay::Run':[(N('replay::Replayed'),'replayed'),(U,'end'),(AR,'flows')]}
+walks.FIELDS={'calls::Change':[(N('calls::Answered'),'answered'),(U,'first'),(U,'end'),(AR,'flows')],'replay::Played':[(N('replay::Replayed'),'replayed'),(U,'end'),(AR,'flows')]}
 t = sys.stdin.read()
 LOAD=dict(alias="load-it",cname='Load',facts=lambda a,r,f:[f'{r} ≡ loadedFrom {a[0]}'])
 STORE=dict(alias='store-it',cname='Store',facts=lambda a,r,f:[f'{f["flows"]} ≡ storedIn {a[1]} {a[2]} {a[3]} {a[0]}'])

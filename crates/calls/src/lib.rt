@@ -1,6 +1,6 @@
-// The calls on plain data: start, enable, disable, add a policy set. What each call answers and leaves stands in outcome/specs/Outcome.antt, what is claimed of
-// it in claims/specs/Claims.antt. Lent are four words of tags a container, sixteen words of policy sets and one count of these; the flow table is an array
-// with the length of what was lent. The public calls on a lent table are in the crate tracker.
+// The cores of starting, enabling, disabling and adding a policy set, on plain data: the flow table is an array, with the number of records that were lent.
+// The public calls, which are lent the table, are in the crate tracker; replay goes by `apply_enable` and `apply_disable`.
+// What each answers and leaves stands in outcome/specs/Outcome.antt.
 use flowtable::Found;
 use model::Flow;
 use state::Header;
@@ -50,13 +50,13 @@ pub fn start(
     tags: &mut [u64],
     policies: &mut [u64],
     counts: &mut [u8],
-    length: usize,
+    lent: usize,
     flows: [Flow; 512],
 ) -> Change
-    ensures left { λ r. ⌜ leftBy (r .answered) (now (tags .exit)) (now (policies .exit)) (now (counts .exit)) (take length (r .flows)) ≡ startOf n (storageOf (now (tags .entry)) (now (policies .entry)) (now (counts .entry)) (take length flows)) ⌝ }
+    ensures left { λ r. ⌜ leftBy (r .answered) (now (tags .exit)) (now (policies .exit)) (now (counts .exit)) (take lent (r .flows)) ≡ startOf n (storageOf (now (tags .entry)) (now (policies .entry)) (now (counts .entry)) (take lent flows)) ⌝ }
     ensures stored { λ r. ⌜ storedIn (r .first) (r .end) (r .flows) flows ≡ r .flows ⌝ }
 {
-    if validity::bad_size(n, tags.len(), policies.len(), counts.len(), length) {
+    if validity::bad_size(n, tags.len(), policies.len(), counts.len(), lent) {
         return refused(Reply::BadSize, Header::NONE, flows);
     }
     tagstore::store_own_tags(tags, n);
@@ -83,14 +83,14 @@ pub fn enable(
     tags: &mut [u64],
     policies: &[u64],
     counts: &[u8],
-    length: usize,
+    lent: usize,
     flows: [Flow; 512],
     flow: Flow,
 ) -> Change
-    ensures left { λ r. ⌜ leftBy (r .answered) (now (tags .exit)) (now (policies .entry)) (now (counts .entry)) (take length (r .flows)) ≡ enableOf (stateOf header (now (tags .entry)) (now (policies .entry)) (now (counts .entry)) (take length flows)) flow ⌝ }
+    ensures left { λ r. ⌜ leftBy (r .answered) (now (tags .exit)) (now (policies .entry)) (now (counts .entry)) (take lent (r .flows)) ≡ enableOf (stateOf header (now (tags .entry)) (now (policies .entry)) (now (counts .entry)) (take lent flows)) flow ⌝ }
     ensures stored { λ r. ⌜ storedIn (r .first) (r .end) (r .flows) flows ≡ r .flows ⌝ }
 {
-    match validity::judge(header, tags, policies, counts, length, flows) {
+    match validity::judge(header, tags, policies, counts, lent, flows) {
         Judgement::BadSize => refused(Reply::BadSize, header, flows),
         Judgement::InvalidState => refused(Reply::InvalidState, header, flows),
         Judgement::Usable => apply_enable(header, tags, flows, flow),
@@ -103,14 +103,14 @@ pub fn disable(
     tags: &[u64],
     policies: &[u64],
     counts: &[u8],
-    length: usize,
+    lent: usize,
     flows: [Flow; 512],
     number: u32,
 ) -> Change
-    ensures left { λ r. ⌜ leftBy (r .answered) (now (tags .entry)) (now (policies .entry)) (now (counts .entry)) (take length (r .flows)) ≡ disableOf (stateOf header (now (tags .entry)) (now (policies .entry)) (now (counts .entry)) (take length flows)) number ⌝ }
+    ensures left { λ r. ⌜ leftBy (r .answered) (now (tags .entry)) (now (policies .entry)) (now (counts .entry)) (take lent (r .flows)) ≡ disableOf (stateOf header (now (tags .entry)) (now (policies .entry)) (now (counts .entry)) (take lent flows)) number ⌝ }
     ensures stored { λ r. ⌜ storedIn (r .first) (r .end) (r .flows) flows ≡ r .flows ⌝ }
 {
-    match validity::judge(header, tags, policies, counts, length, flows) {
+    match validity::judge(header, tags, policies, counts, lent, flows) {
         Judgement::BadSize => refused(Reply::BadSize, header, flows),
         Judgement::InvalidState => refused(Reply::InvalidState, header, flows),
         Judgement::Usable => apply_disable(header, flows, number),
@@ -123,14 +123,14 @@ pub fn add_policy(
     tags: &[u64],
     policies: &mut [u64],
     counts: &mut [u8],
-    length: usize,
+    lent: usize,
     flows: [Flow; 512],
     container: u32,
     policy: TagSet,
 ) -> Answered
-    ensures { λ r. ⌜ leftBy r (now (tags .entry)) (now (policies .exit)) (now (counts .exit)) (take length flows) ≡ addOf (stateOf header (now (tags .entry)) (now (policies .entry)) (now (counts .entry)) (take length flows)) container policy ⌝ }
+    ensures { λ r. ⌜ leftBy r (now (tags .entry)) (now (policies .exit)) (now (counts .exit)) (take lent flows) ≡ addOf (stateOf header (now (tags .entry)) (now (policies .entry)) (now (counts .entry)) (take lent flows)) container policy ⌝ }
 {
-    match validity::judge(header, tags, policies, counts, length, flows) {
+    match validity::judge(header, tags, policies, counts, lent, flows) {
         Judgement::BadSize => Answered {
             reply: Reply::BadSize,
             header: header,

@@ -87,8 +87,8 @@ use Rattle.claims.specs.Permission.{takes, givenTo, SameSets, Known, tak
 -- THE DEFINITIONS: model/specs/Model.antt (containers, flows, executions; no word of a tracker) and Reach.antt; state/specs/State.antt and
 -- Valid.antt; outcome/specs/Outcome.antt; question/specs/Question.antt; ranking/specs/Ranking.antt; leb128/specs/Number.antt and Answer.antt;
 -- eventlog/specs/Answer.antt and Log.antt; replay/specs/Replay.antt; decimal/specs/Decimal.antt; tallytext/specs/Text.antt; with tagset/specs/Set.antt
--- and refusal/specs/Order.antt (`firstOf`, IsFirst). For the running calls: Replies.antt of tracker, question, ranking and replay (what the contracts
--- cite), tracker/specs/Unjudged.antt, validity/specs/Judge.antt, flowtable/specs/FlowTable.antt, propagation/specs/Pass.antt,
+-- and refusal/specs/Order.antt (`firstOf`, IsFirst). For the running calls: Replies.antt of calls, question, ranking and replay (what the contracts
+-- cite), calls/specs/Unjudged.antt, flowslice/specs/Slice.antt, validity/specs/Judge.antt, flowtable/specs/FlowTable.antt, propagation/specs/Pass.antt,
 -- tagstore/specs/Store.antt.
 -- WORDS OF THE CLAIMS: IsSized, ProperEnds, Rising, IsValid, Usable (state/specs/IsValid.antt); Fit64 (state/specs/Layout.antt); totalOf
 -- (tagstore/specs/Store.antt); StartAnswers, Enables, EnableAnswers, DisableAnswers, Adds, AddAnswers (outcome/specs/Table.antt); Sentence,

@@ -1,4 +1,4 @@
--- The running calls. A call's contract (src/lib.rt) says that what it gives back and leaves makes up the outcome of its definition; so all that is
+-- The running calls. A call's contract (tracker/src/lib.rt) says that what it gives back and leaves makes up the outcome of its definition; so all that is
 -- claimed of the outcome is true of the call. Gathered here for each call, and for calls one after the other. Assumes nothing.
 use mathlib.Core.Path.{_≡_, refl, sym, ap, ap₂, _∙_, subst}
 use mathlib.Core.List.{List, [], _∷_, _++_, map, append-assoc, append-nil}

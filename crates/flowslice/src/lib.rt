@@ -1,8 +1,7 @@
 // The flow table as a lent slice, of any length and content: its first 512 records loaded, and records stored in it (specs/Slice.antt).
 use model::Flow;
 ghost use mathlib.Core.Path.{_≡_};
-ghost use Prim.Native.Nat.{_≤_, min};
-ghost use lib.ListN.{length};
+ghost use Prim.Native.Nat.{min};
 ghost use Rattle.flowslice.specs.Slice.{loadedFrom, storedIn};
 
 // The first 512 records of the table, zeros where it has fewer. One scan.
@@ -32,17 +31,17 @@ pub fn store(flows: &mut [Flow], first: usize, end: usize, rows: [Flow; 512])
 }
 
 // The least of the length of a table, an end and 512.
-fn up_to(length: usize, end: usize) -> usize
-    ensures { λ r. ⌜ r ≡ min «length» (min end 512) ⌝ }
+fn up_to(lent: usize, end: usize) -> usize
+    ensures { λ r. ⌜ r ≡ min lent (min end 512) ⌝ }
 {
-    if 512 <= length {
+    if 512 <= lent {
         if 512 <= end {
             return 512;
         }
         return end;
     }
-    if length <= end {
-        return length;
+    if lent <= end {
+        return lent;
     }
     end
 }

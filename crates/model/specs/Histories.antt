@@ -13,7 +13,7 @@ use Rattle.model.specs.declared.Flow.{Flow}
 use Rattle.model.specs.Model.{_∈_, Event, enable, disable, History, empty, _▸_, enabled, edgesOf, Enabled*, Flows, own, next}
 use Rattle.model.specs.Model.{greatest, joins, joined, acceptedFrom, accepted}
 
--- FLOWS: 'for the empty history it is the start', Enabled* for one event, and Flows · Enabled* for one more
+-- FLOWS: 'for the empty history [..] it is the start', Enabled* for one event, and Flows · Enabled* for one more
 
 pub flows-empty : (n t c : ℕ) → Flows n empty t c ↔ ((t ≡ c) × (c < n))
 flows-empty n t c = (fore, λ p. subst (λ (x : ℕ). Flows n empty x c) (sym (p .0)) (own (p .1)))

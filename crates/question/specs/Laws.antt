@@ -71,7 +71,7 @@ module _ {A : Type 0} where
 
 -- LEGAL CONTAINERS
 
--- document 001: 'legal if and only if its information tag is included in at least one of the sets of its policy tag'
+-- document 001: 'legal if and only if its information tag [..] is included in at least one of the sets of its policy tag [..]'
 pub legal-exactly-if : (s : State) (c : ℕ)
     → (isLegal s c ≡ true) ↔ ((p : TagSet) × (p ∈ policiesOf s c) × ((t : ℕ) → has (setAt (s .storage .tags) c) t ≡ true → has p t ≡ true))
 unfolding isLegal

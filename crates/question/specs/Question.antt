@@ -45,7 +45,7 @@ anyOf p (x ∷ xs) = p x || anyOf p xs
 unfoldable pub policiesOf : State → ℕ → List TagSet
 policiesOf s c = tabulate (policyCount s c) (λ k. policyAt s c k)
 
--- document 001: 'legal if and only if its information tag is included in at least one of the sets of its policy tag'
+-- document 001: 'legal if and only if its information tag [..] is included in at least one of the sets of its policy tag [..]'
 unfoldable pub isLegal : State → ℕ → Bool
 isLegal s c = anyOf (subsetOf (setAt (s .storage .tags) c)) (policiesOf s c)
 

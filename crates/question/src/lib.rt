@@ -1,5 +1,6 @@
-// Questions about a container: its tag set, the set's size, and whether it may be sent. What each answers stands in specs/Question.antt.
-// A question changes nothing, and answers for every content and length of lent storage. The flow table is the first `length` of the records.
+// The cores of the questions about a container (its tag set, the set's size, whether it may be sent), on plain data; the public calls are in the crate tracker.
+// What each answers stands in specs/Question.antt.
+// A question changes nothing, and answers for every content and length of lent storage. The flow table is the first `lent` of the records.
 use model::Flow;
 use state::Header;
 use tagset::TagSet;
@@ -49,13 +50,13 @@ pub fn tags_of(
     tags: &[u64],
     policies: &[u64],
     counts: &[u8],
-    length: usize,
+    lent: usize,
     flows: [Flow; 512],
     container: u32,
 ) -> Tags
-    ensures { λ r. ⌜ tagsReply r ≡ tagsOf (stateOf header (now (tags .entry)) (now (policies .entry)) (now (counts .entry)) (take length flows)) container ⌝ }
+    ensures { λ r. ⌜ tagsReply r ≡ tagsOf (stateOf header (now (tags .entry)) (now (policies .entry)) (now (counts .entry)) (take lent flows)) container ⌝ }
 {
-    match validity::judge(header, tags, policies, counts, length, flows) {
+    match validity::judge(header, tags, policies, counts, lent, flows) {
         Judgement::BadSize => refused(Asking::BadSize),
         Judgement::InvalidState => refused(Asking::InvalidState),
         Judgement::Usable => {
@@ -76,13 +77,13 @@ pub fn size_of(
     tags: &[u64],
     policies: &[u64],
     counts: &[u8],
-    length: usize,
+    lent: usize,
     flows: [Flow; 512],
     container: u32,
 ) -> Size
-    ensures { λ r. ⌜ sizeReply r ≡ sizeAsked (stateOf header (now (tags .entry)) (now (policies .entry)) (now (counts .entry)) (take length flows)) container ⌝ }
+    ensures { λ r. ⌜ sizeReply r ≡ sizeAsked (stateOf header (now (tags .entry)) (now (policies .entry)) (now (counts .entry)) (take lent flows)) container ⌝ }
 {
-    let found = tags_of(header, tags, policies, counts, length, flows, container);
+    let found = tags_of(header, tags, policies, counts, lent, flows, container);
     let asking = found.asking;
     let set = found.set;
     match asking {
@@ -99,13 +100,13 @@ pub fn is_legal(
     tags: &[u64],
     policies: &[u64],
     counts: &[u8],
-    length: usize,
+    lent: usize,
     flows: [Flow; 512],
     container: u32,
 ) -> Legal
-    ensures { λ r. ⌜ legalReply r ≡ legalOf (stateOf header (now (tags .entry)) (now (policies .entry)) (now (counts .entry)) (take length flows)) container ⌝ }
+    ensures { λ r. ⌜ legalReply r ≡ legalOf (stateOf header (now (tags .entry)) (now (policies .entry)) (now (counts .entry)) (take lent flows)) container ⌝ }
 {
-    let found = tags_of(header, tags, policies, counts, length, flows, container);
+    let found = tags_of(header, tags, policies, counts, lent, flows, container);
     let asking = found.asking;
     let set = found.set;
     match asking {

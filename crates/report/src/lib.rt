@@ -1,4 +1,5 @@
-// The text of `tally`: an input run in a lent tracker with a flow table of its own, and its report in a lent output. What the text is stands in tallytext/specs/Text.antt.
+// The text of `tally`: an input run in lent lists and a flow table of its own, and its report in a lent output.
+// What the text is stands in tallytext/specs/Text.antt.
 // The private functions take positions up to some millions, far past the end of every text (264,256 bytes): so no sum of a position wraps.
 use leb128::Encoded;
 use model::Flow;
@@ -22,7 +23,8 @@ pub struct Tallied {
     pub flows: [Flow; 512],
 }
 
-// Runs an input in this storage and a new flow table, and writes its text at the start of the output, or no byte where it does not fit. Input above 16,384 bytes is not run.
+// Runs an input in these lists and a new flow table, and writes its text at the start of the output, or no byte where it does not fit. Input above 16,384
+// bytes is not run.
 pub fn tally(
     bytes: &[u8],
     tags: &mut [u64],

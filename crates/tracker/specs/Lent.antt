@@ -1,6 +1,6 @@
 -- A call on a lent table is the call on its first 512 records: what the core makes of the records that were loaded, stored, is what the definitions say of the
 -- table as it was lent, of any length. Assumes nothing.
-use mathlib.Core.Path.{_≡_, refl, sym, ap, subst, _∙_}
+use mathlib.Core.Path.{_≡_, sym, ap, subst, _∙_}
 use mathlib.Core.List.{List, _++_}
 use Prim.Native.Nat.{ℕ}
 use lib.ListN.{length, take, drop, take-append-drop}

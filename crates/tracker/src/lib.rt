@@ -1,8 +1,6 @@
-// The calls of the tracker on lent storage: the library's face. Lent are four words of tags a container, sixteen words of policy sets, one count of these, and
-// a table of 512 records of flows, each list of any length and content: what is too short is refused, what lies beyond is neither judged nor touched.
-// Each call loads the table's records by one scan, has the work done on plain data, and stores the records that the work changed.
-// What a call answers and leaves stands in outcome/specs/Outcome.antt, question/specs/Question.antt, ranking/specs/Ranking.antt and replay/specs/Replay.antt,
-// what is claimed of it in claims/specs/Claims.antt.
+// The product's calls. Lent are four words of tags a container, sixteen words of policy sets, one count of these and 512 records of flows, each list of any
+// length and content. Each call loads the records by one scan, has the work done on plain data, and stores the records that may have changed.
+// What a call answers and leaves stands in Outcome.antt of outcome, Question.antt of question, Ranking.antt of ranking, Replay.antt of replay.
 use calls::Answered;
 use model::Flow;
 use question::Legal;

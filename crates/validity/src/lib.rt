@@ -19,23 +19,23 @@ pub enum Judgement {
     InvalidState,
 }
 
-// Judges the state: first its lengths, then its content. The flow table is the first `length` of these records.
+// Judges the state: first its lengths, then its content. The flow table is the first `lent` of these records.
 pub fn judge(
     header: Header,
     tags: &[u64],
     policies: &[u64],
     counts: &[u8],
-    length: usize,
+    lent: usize,
     flows: [Flow; 512],
 ) -> Judgement
-    ensures { λ r. ⌜ judgementOf r ≡ firstOf (stateOrder (stateOf header (now (tags .entry)) (now (policies .entry)) (now (counts .entry)) (take length flows))) 0 ⌝ }
+    ensures { λ r. ⌜ judgementOf r ≡ firstOf (stateOrder (stateOf header (now (tags .entry)) (now (policies .entry)) (now (counts .entry)) (take lent flows))) 0 ⌝ }
 {
     if bad_size(
         header.containers,
         tags.len(),
         policies.len(),
         counts.len(),
-        length,
+        lent,
     ) {
         return Judgement::BadSize;
     }

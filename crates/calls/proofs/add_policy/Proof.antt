@@ -12,7 +12,7 @@ use Rattle.calls.proofs.add_policy.Tie as tie
 
 -- the state that the call is given
 abbrev at : tie.Start → State
-at c = stateOf (c .args .header) (c .args .tags .now) (c .args .policies .now) (c .args .counts .now) (take (c .args .length) (c .args .flows))
+at c = stateOf (c .args .header) (c .args .tags .now) (c .args .policies .now) (c .args .counts .now) (take (c .args .lent) (c .args .flows))
 
 judge-requires : tie.Need-judge-requires
 judge-requires c κs = search needs
@@ -68,7 +68,7 @@ returns-3 c =
     let a = c .before .before .before .before .before in
     let j = a .before .before .before .before in
     let x = j .before .before .before .before .before .before in
-    c .before .before .before .before .apply-add .ensures (x .args .tags .now) (take (x .args .length) (x .args .flows))
+    c .before .before .before .before .apply-add .ensures (x .args .tags .now) (take (x .args .lent) (x .args .flows))
     ∙ apply-add (at x) (judged-usable (at x) (sym (j .judge .ensures) ∙ ap judgementOf (a .before .before .enum-told3 .given .1))) (x .args .container)
     (x .args .policy)
 

@@ -21,7 +21,7 @@ with c flows = stateOf (c .args .header) (c .args .tags .now) (c .args .policies
 
 -- the state that the call is given
 abbrev at : tie.Start → State
-at c = with c (take (c .args .length) (c .args .flows))
+at c = with c (take (c .args .lent) (c .args .flows))
 
 -- the array has 512 records
 long : (c : tie.Start) → length (c .args .flows) ≡ 512
@@ -52,7 +52,7 @@ returns : tie.Need-returns
 returns c =
     let j = c .before .before .before in
     let x = j .before .before .before .before in (
-      left-refused (at x) (take (x .args .length)) refl (c .refused .ensures)
+      left-refused (at x) (take (x .args .lent)) refl (c .refused .ensures)
           (disable-judged (at x) (x .args .number) 8 (sym (j .judge .ensures) ∙ ap judgementOf (c .before .enum-told .given .1))),
       refused-stored (x .args .flows) (c .refused .ensures),
     )
@@ -61,7 +61,7 @@ returns-2 : tie.Need-returns-2
 returns-2 c =
     let j = c .before .before .before in
     let x = j .before .before .before .before in (
-      left-refused (at x) (take (x .args .length)) refl (c .refused2 .ensures)
+      left-refused (at x) (take (x .args .lent)) refl (c .refused2 .ensures)
           (disable-judged (at x) (x .args .number) 11 (sym (j .judge .ensures) ∙ ap judgementOf (c .before .enum-told2 .given .1))),
       refused-stored (x .args .flows) (c .refused2 .ensures),
     )
@@ -72,7 +72,7 @@ returns-3 c =
     let x = j .before .before .before .before in
     let u = judged-usable (at x) (sym (j .judge .ensures) ∙ ap judgementOf (c .before .enum-told3 .given .1)) in
     let done = c .apply-disable in (
-      left-lent (x .args .flows) (long x) (x .args .length) (done .result) (λ fs. applyDisableOf (with x fs) (x .args .number)) (u .sized .records)
+      left-lent (x .args .flows) (long x) (x .args .lent) (done .result) (λ fs. applyDisableOf (with x fs) (x .args .number)) (u .sized .records)
           (done .ensures .0 (x .args .tags .now) (x .args .policies .now) (x .args .counts .now)) (done .ensures .1)
           ∙ apply-disable (at x) u (x .args .number),
       done .ensures .1,

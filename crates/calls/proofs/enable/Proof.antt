@@ -21,7 +21,7 @@ with c flows = stateOf (c .args .header) (c .args .tags .now) (c .args .policies
 
 -- the state that the call is given
 abbrev at : tie.Start → State
-at c = with c (take (c .args .length) (c .args .flows))
+at c = with c (take (c .args .lent) (c .args .flows))
 
 -- the array has 512 records
 long : (c : tie.Start) → length (c .args .flows) ≡ 512
@@ -55,7 +55,7 @@ returns : tie.Need-returns
 returns c =
     let j = c .before .before .before in
     let x = j .before .before .before .before .before in (
-      left-refused (at x) (take (x .args .length)) refl (c .refused .ensures)
+      left-refused (at x) (take (x .args .lent)) refl (c .refused .ensures)
           (enable-judged (at x) (x .args .flow) 8 (sym (j .judge .ensures) ∙ ap judgementOf (c .before .enum-told .given .1))),
       refused-stored (x .args .flows) (c .refused .ensures),
     )
@@ -67,7 +67,7 @@ returns-2 : tie.Need-returns-2
 returns-2 c =
     let j = c .before .before .before in
     let x = j .before .before .before .before .before in (
-      left-refused (at x) (take (x .args .length)) refl (c .refused2 .ensures)
+      left-refused (at x) (take (x .args .lent)) refl (c .refused2 .ensures)
           (enable-judged (at x) (x .args .flow) 11 (sym (j .judge .ensures) ∙ ap judgementOf (c .before .enum-told2 .given .1))),
       refused-stored (x .args .flows) (c .refused2 .ensures),
     )
@@ -82,7 +82,7 @@ returns-3 c =
     let told = c .before .before .before .before .enum-told3 .given .1 in
     let u = judged-usable (at x) (sym (j .judge .ensures) ∙ ap judgementOf told) in
     let done = c .before .before .apply-enable in (
-      left-lent (x .args .flows) (long x) (x .args .length) (done .result) (λ fs. applyEnableOf (with x fs) (x .args .flow)) (u .sized .records)
+      left-lent (x .args .flows) (long x) (x .args .lent) (done .result) (λ fs. applyEnableOf (with x fs) (x .args .flow)) (u .sized .records)
           (done .ensures .0 (x .args .policies .now) (x .args .counts .now)) (done .ensures .1)
           ∙ apply-enable (at x) u (x .args .flow) (λ k. j .before .before .before .before .slice-known .given k .fits),
       done .ensures .1,

@@ -24,8 +24,8 @@ returns : tie.Need-returns
 returns c =
     let x = c .before .before .before .before .before .before in
     let a = x .args in (
-      left-refused (stateOf noHeader (a .tags .now) (a .policies .now) (a .counts .now) (take (a .length) (a .flows))) (take (a .length)) refl (c .refused .ensures)
-          (start-judged (a .n) (a .tags .now) (a .policies .now) (a .counts .now) (a .length) (a .flows) (long x) (c .before .before .bad-size .ensures) (c .before .if1 .taken)),
+      left-refused (stateOf noHeader (a .tags .now) (a .policies .now) (a .counts .now) (take (a .lent) (a .flows))) (take (a .lent)) refl (c .refused .ensures)
+          (start-judged (a .n) (a .tags .now) (a .policies .now) (a .counts .now) (a .lent) (a .flows) (long x) (c .before .before .bad-size .ensures) (c .before .if1 .taken)),
       refused-stored (a .flows) (c .refused .ensures),
     )
 
@@ -58,7 +58,7 @@ returns-2 c =
     let e1 = own .before .before in
     let x = e1 .before .before .before .before .before in
     let a = x .args in (
-      start-done (a .n) (a .tags .now) (a .policies .now) (a .counts .now) (a .length) (a .flows) (long x) (e1 .before .bad-size .ensures) (e1 .if1 .left)
+      start-done (a .n) (a .tags .now) (a .policies .now) (a .counts .now) (a .lent) (a .flows) (long x) (e1 .before .bad-size .ensures) (e1 .if1 .left)
           (own .store-own-tags .ensures) (words .clear-words .ensures) (bytes .clear-bytes .ensures),
       start-stored (a .flows) (long x),
     )

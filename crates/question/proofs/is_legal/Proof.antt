@@ -21,7 +21,7 @@ use Rattle.question.proofs.is_legal.Tie as tie
 
 -- the state that is asked about
 abbrev at : tie.After-tags-of → State
-at j = let a = j .before .before .before .before .args in stateOf (a .header) (a .tags .now) (a .policies .now) (a .counts .now) (take (a .length) (a .flows))
+at j = let a = j .before .before .before .before .args in stateOf (a .header) (a .tags .now) (a .policies .now) (a .counts .now) (take (a .lent) (a .flows))
 
 -- the container
 abbrev which : tie.After-tags-of → ℕ

@@ -18,7 +18,7 @@ with c flows = stateOf (c .args .header) (c .args .tags .now) (c .args .policies
 
 -- the state that is judged
 abbrev judged : tie.Start → State
-judged c = with c (take (c .args .length) (c .args .flows))
+judged c = with c (take (c .args .lent) (c .args .flows))
 
 -- the array has 512 records
 long : (c : tie.Start) → length (c .args .flows) ≡ 512
@@ -31,7 +31,7 @@ bad-size-requires c κs = search needs
 measured : (c : tie.After-bad-size) → (let s = judged (c .before .before .before .before) in badSize (s .header .containers) (s .storage) ≡ c .bad-size .result)
 measured c =
     let s = c .before .before .before .before in
-    lent-short (s .args .length) (s .args .flows) (long s) (s .args .header .containers) (s .args .tags .now) (s .args .policies .now) (s .args .counts .now)
+    lent-short (s .args .lent) (s .args .flows) (long s) (s .args .header .containers) (s .args .tags .now) (s .args .policies .now) (s .args .counts .now)
     ∙ sym (c .bad-size .ensures)
 
 -- where they are right, the table is the whole array
@@ -40,7 +40,7 @@ whole : (c : tie.After-bad-size) → c .bad-size .result ≡ false
 whole c e =
     let s = c .before .before .before .before in
     ap (λ (fs : List Flow). validOf (with s fs))
-    (lent-whole (s .args .length) (s .args .flows) (long s) (sized (s .args .header .containers) (judged s .storage) .0 (measured c ∙ e) .records))
+    (lent-whole (s .args .lent) (s .args .flows) (long s) (sized (s .args .header .containers) (judged s .storage) .0 (measured c ∙ e) .records))
 
 returns : tie.Need-returns
 returns c = simp (measured (c .before) ∙ c .if1 .taken)
@@ -48,7 +48,7 @@ returns c = simp (measured (c .before) ∙ c .if1 .taken)
 is-valid-requires : tie.Need-is-valid-requires
 is-valid-requires c κs =
     let s = c .before .before .before .before .before in
-    lent-right (s .args .length) (s .args .flows) (long s) (s .args .header .containers) (s .args .tags .now) (s .args .policies .now) (s .args .counts .now)
+    lent-right (s .args .lent) (s .args .flows) (long s) (s .args .header .containers) (s .args .tags .now) (s .args .policies .now) (s .args .counts .now)
     (sym (c .before .bad-size .ensures) ∙ c .if1 .left)
 
 returns-2 : tie.Need-returns-2
