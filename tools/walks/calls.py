@@ -21,43 +21,43 @@ def go(fn,names,corename,C,said,goal,uses,doc):
 def doc(fn,how): return f'`tracker::{fn}` meets its contract: a walk of its MIR, by hand. {how} All that is known of the functions called is their\n-- contracts; specs/Lent.antt puts these together. Assumes nothing.'
 LEND='The table is lent as a `&` to `load` and as a `&mut` to `store`, and comes back each time.'
 READ='The table goes to `load` at its own lifetime.'
-CALLED='called l-flows e0-load-it (r-core .first) (r-core .end) (r-core .flows) e1-core e0-store-it (λ (fs : List Flow). %s) (λ fs. %s) (r-core .answered) %s e0-core'
+CALLED='same-outcome l-flows e0-load-it outcomeBeyond (λ (fs : List Flow). leftBy (r-core .answered) %s fs) (λ (fs : List Flow). %s) (λ more fs. refl) (λ fs. %s) (r-core .flows) (table-stored l-flows e0-load-it (r-core .first) (r-core .end) (r-core .flows) e1-core e0-store-it) e0-core'
 RO='use Rattle.state.specs.State.{%s}\nuse Rattle.outcome.specs.Outcome.{%s}\nuse Rattle.calls.specs.Replies.{leftBy}\n'
 # start
 w=lambda i:f'(ws-core {walks.dot(i)})'
 go('start',['n','tags','policies','counts','flows'],'calls::start',
   core(lambda a,r,f:[f'leftBy ({r} .answered) {f["tags"]} {f["policies"]} {f["counts"]} (take {a[4]} ({r} .flows)) ≡ startOf {a[0]} (storageOf {a[1]} {a[2]} {a[3]} (take {a[4]} {a[5]}))',same(r,a[5])]),
-  CALLED%('startOf v-n (storageOf l-tags l-policies l-counts fs)','start-front v-n (storageOf l-tags l-policies l-counts fs)',f'{w(1)} {w(2)} {w(3)}'),
+  CALLED%(f'{w(1)} {w(2)} {w(3)}','startOf v-n (storageOf l-tags l-policies l-counts fs)','start-front v-n (storageOf l-tags l-policies l-counts fs)'),
   lambda r,z:[f'leftBy {r} {z["tags"]} {z["policies"]} {z["counts"]} {z["flows"]} ≡ startOf v-n (storageOf l-tags l-policies l-counts l-flows)'],
-  RO%('storageOf','startOf')+SL+FRONT%'start-front'+LENT%'called',doc('start',LEND))
+  RO%('storageOf','startOf')+SL+FRONT%'outcomeBeyond, start-front'+LENT%'table-stored, same-outcome',doc('start',LEND))
 go('enable',['header','tags','policies','counts','flows','flow'],'calls::enable',
   core(lambda a,r,f:[f'leftBy ({r} .answered) {f["tags"]} {a[2]} {a[3]} (take {a[4]} ({r} .flows)) ≡ enableOf (stateOf {a[0]} {a[1]} {a[2]} {a[3]} (take {a[4]} {a[5]})) {a[6]}',same(r,a[5])]),
-  CALLED%(f'enableOf ({st("fs")}) v-flow',f'enable-front ({st("fs")}) v-flow',f'{w(1)} l-policies l-counts'),
+  CALLED%(f'{w(1)} l-policies l-counts',f'enableOf ({st("fs")}) v-flow',f'enable-front ({st("fs")}) v-flow'),
   lambda r,z:[f'leftBy {r} {z["tags"]} l-policies l-counts {z["flows"]} ≡ enableOf ({st("l-flows")}) v-flow'],
-  RO%('stateOf','enableOf')+SL+FRONT%'enable-front'+LENT%'called',doc('enable',LEND))
+  RO%('stateOf','enableOf')+SL+FRONT%'outcomeBeyond, enable-front'+LENT%'table-stored, same-outcome',doc('enable',LEND))
 go('disable',['header','tags','policies','counts','flows','number'],'calls::disable',
   core(lambda a,r,f:[f'leftBy ({r} .answered) {a[1]} {a[2]} {a[3]} (take {a[4]} ({r} .flows)) ≡ disableOf (stateOf {a[0]} {a[1]} {a[2]} {a[3]} (take {a[4]} {a[5]})) {a[6]}',same(r,a[5])]),
-  CALLED%(f'disableOf ({st("fs")}) v-number',f'disable-front ({st("fs")}) v-number','l-tags l-policies l-counts'),
+  CALLED%('l-tags l-policies l-counts',f'disableOf ({st("fs")}) v-number',f'disable-front ({st("fs")}) v-number'),
   lambda r,z:[f'leftBy {r} l-tags l-policies l-counts {z["flows"]} ≡ disableOf ({st("l-flows")}) v-number'],
-  RO%('stateOf','disableOf')+SL+FRONT%'disable-front'+LENT%'called',doc('disable',LEND))
+  RO%('stateOf','disableOf')+SL+FRONT%'outcomeBeyond, disable-front'+LENT%'table-stored, same-outcome',doc('disable',LEND))
 go('add_policy',['header','tags','policies','counts','flows','container','policy'],'calls::add_policy',
   core(lambda a,r,f:[f'leftBy {r} {a[1]} {f["policies"]} {f["counts"]} (take {a[4]} {a[5]}) ≡ addOf (stateOf {a[0]} {a[1]} {a[2]} {a[3]} (take {a[4]} {a[5]})) {a[6]} {a[7]}']),
-  f'kept l-flows e0-load-it (λ (fs : List Flow). addOf ({st("fs")}) v-container v-policy) (λ fs. add-front ({st("fs")}) v-container v-policy) r-core l-tags {w(2)} {w(3)} e0-core',
+  f'same-outcome l-flows e0-load-it outcomeBeyond (λ (fs : List Flow). leftBy r-core l-tags {w(2)} {w(3)} fs) (λ (fs : List Flow). addOf ({st("fs")}) v-container v-policy) (λ more fs. refl) (λ fs. add-front ({st("fs")}) v-container v-policy) r-load-it (table-kept l-flows e0-load-it) e0-core',
   lambda r,z:[f'leftBy {r} l-tags {z["policies"]} {z["counts"]} l-flows ≡ addOf ({st("l-flows")}) v-container v-policy'],
-  RO%('stateOf','addOf')+SL1+FRONT%'add-front'+LENT%'kept',doc('add_policy',READ))
+  RO%('stateOf','addOf')+SL1+FRONT%'outcomeBeyond, add-front'+LENT%'table-kept, same-outcome',doc('add_policy',READ))
 for fn,reply,of,front in (('tags_of','tagsReply','tagsOf','tags-front'),('size_of','sizeReply','sizeAsked','size-front'),('is_legal','legalReply','legalOf','legal-front')):
     go(fn,['header','tags','policies','counts','flows','container'],f'question::{fn}',
       core(lambda a,r,f:[f'{reply} {r} ≡ {of} (stateOf {a[0]} {a[1]} {a[2]} {a[3]} (take {a[4]} {a[5]})) {a[6]}']),
-      f'asked l-flows e0-load-it (λ (fs : List Flow). {of} ({st("fs")}) v-container) (λ fs. {front} ({st("fs")}) v-container) e0-core',
+      f'same-answer l-flows e0-load-it (λ (fs : List Flow). {of} ({st("fs")}) v-container) (λ fs. {front} ({st("fs")}) v-container) e0-core',
       lambda r,z:[f'{reply} {r} ≡ {of} ({st("l-flows")}) v-container'],
-      'use Rattle.state.specs.State.{stateOf}\nuse Rattle.question.specs.Question.{%s}\nuse Rattle.question.specs.Replies.{%s}\n'%(of,reply)+SL1+FRONT%front+LENT%'asked',doc(fn,READ))
+      'use Rattle.state.specs.State.{stateOf}\nuse Rattle.question.specs.Question.{%s}\nuse Rattle.question.specs.Replies.{%s}\n'%(of,reply)+SL1+FRONT%front+LENT%'same-answer',doc(fn,READ))
 go('rank',['header','tags','policies','counts','flows','out'],'ranking::rank',
   core(lambda a,r,f:[f'rankedReply {r} ≡ rankOf (stateOf {a[0]} {a[1]} {a[2]} {a[3]} (take {a[4]} {a[5]})) {a[6]} .refusal',f'{f["out"]} ≡ rankOf (stateOf {a[0]} {a[1]} {a[2]} {a[3]} (take {a[4]} {a[5]})) {a[6]} .output']),
-  '('+', '.join(f'asked l-flows e0-load-it (λ (fs : List Flow). rankOf ({st("fs")}) l-out .{x}) (λ fs. ap (λ (a : Ranking). a .{x}) (rank-front ({st("fs")}) l-out)) e{i}-core' for i,x in enumerate(('refusal','output')))+')',
+  '('+', '.join(f'same-answer l-flows e0-load-it (λ (fs : List Flow). rankOf ({st("fs")}) l-out .{x}) (λ fs. ap (λ (a : Ranking). a .{x}) (rank-front ({st("fs")}) l-out)) e{i}-core' for i,x in enumerate(('refusal','output')))+')',
   lambda r,z:[f'rankedReply {r} ≡ rankOf ({st("l-flows")}) l-out .refusal',f'{z["out"]} ≡ rankOf ({st("l-flows")}) l-out .output'],
-  'use Rattle.state.specs.State.{stateOf}\nuse Rattle.ranking.specs.Ranking.{Ranking, rankOf}\nuse Rattle.ranking.specs.Replies.{rankedReply}\n'+SL1+FRONT%'rank-front'+LENT%'asked',doc('rank',READ))
+  'use Rattle.state.specs.State.{stateOf}\nuse Rattle.ranking.specs.Ranking.{Ranking, rankOf}\nuse Rattle.ranking.specs.Replies.{rankedReply}\n'+SL1+FRONT%'rank-front'+LENT%'same-answer',doc('rank',READ))
 go('replay',['bytes','tags','policies','counts','flows'],'replay::replay',
   core(lambda a,r,f:[f'replayBy ({r} .replayed) {f["tags"]} {f["policies"]} {f["counts"]} (take {a[4]} ({r} .flows)) ≡ replayOf {a[0]} (storageOf {a[1]} {a[2]} {a[3]} (take {a[4]} {a[5]}))',f'storedIn 0 ({r} .end) ({r} .flows) {a[5]} ≡ {r} .flows']),
-  'replayed l-flows e0-load-it 0 (r-core .end) (r-core .flows) e1-core e0-store-it (λ (fs : List Flow). replayOf l-bytes (storageOf l-tags l-policies l-counts fs)) (λ fs. replay-front l-bytes (storageOf l-tags l-policies l-counts fs)) (r-core .replayed) '+f'{w(1)} {w(2)} {w(3)} e0-core',
+  f'same-outcome l-flows e0-load-it replayBeyond (λ (fs : List Flow). replayBy (r-core .replayed) {w(1)} {w(2)} {w(3)} fs) (λ (fs : List Flow). replayOf l-bytes (storageOf l-tags l-policies l-counts fs)) (λ more fs. refl) (λ fs. replay-front l-bytes (storageOf l-tags l-policies l-counts fs)) (r-core .flows) (table-stored l-flows e0-load-it 0 (r-core .end) (r-core .flows) e1-core e0-store-it) e0-core',
   lambda r,z:[f'replayBy {r} {z["tags"]} {z["policies"]} {z["counts"]} {z["flows"]} ≡ replayOf l-bytes (storageOf l-tags l-policies l-counts l-flows)'],
-  'use Rattle.state.specs.State.{storageOf}\nuse Rattle.replay.specs.Replay.{replayOf}\nuse Rattle.replay.specs.Replies.{replayBy}\n'+SL+FRONT%'replay-front'+LENT%'replayed',doc('replay',LEND))
+  'use Rattle.state.specs.State.{storageOf}\nuse Rattle.replay.specs.Replay.{replayOf}\nuse Rattle.replay.specs.Replies.{replayBy}\n'+SL+FRONT%'replayBeyond, replay-front'+LENT%'table-stored, same-outcome',doc('replay',LEND))

@@ -55,8 +55,8 @@ use Rattle.state.specs.State.{stateOf}
 use Rattle.outcome.specs.Outcome.{addOf}
 use Rattle.calls.specs.Replies.{leftBy}
 use Rattle.flowslice.specs.Slice.{loadedFrom}
-use Rattle.front.specs.Front.{add-front}
-use Rattle.tracker.specs.Lent.{kept}
+use Rattle.front.specs.Front.{outcomeBeyond, add-front}
+use Rattle.tracker.specs.Lent.{table-kept, same-outcome}
 use Rattle.flowslice.proofs.load as load-it
 use Rattle.flowslice.proofs.load.Symbol as load-it-def
 use Rattle.flowslice.proofs.load.Symbol.{name as #flowslice·load}
@@ -172,7 +172,7 @@ module _ {M : Type 1} (𝓤 : URA M) (H : Heap 𝓤) (A : Atoms 𝓤) (W : Given
         move ! (2 ∷ []) $ lft-end ! tt $ move ! (0 ∷ 6 ∷ 5 ∷ []) $ use3 W (later (‵ (MutSlice (named 2) κ-counts u8 .own (r-counts γ-counts (ws-core .1 .1 .1 .0)) (s-counts ∷ [])) ⊛ ‵ (flft κ-counts q-counts))) (comes-back u8 κ-counts (ν-core-counts ∷ []) q-counts γ-counts b-counts o-counts 𝓤 H A W (named 2) (named 2) l-counts δ-core-counts (ws-core .1 .1 .1 .0) room-counts len-core-counts) $ await ! tt $ split ! $
         returns ! (look ! 35 refl) $ forget ! 35 refl $ forget ! 33 refl $ forget ! 31 refl $ forget ! 29 refl $ forget ! 27 refl $ forget ! 25 refl $ forget ! 23 refl $ forget ! 21 refl $ forget ! 19 refl $ forget ! 17 refl $ forget ! 15 refl $ forget ! 13 refl $ forget ! 11 refl $ forget ! 9 refl $
         move ! (35 ∷ 36 ∷ []) $ free1 ! $ move ! (33 ∷ 34 ∷ []) $ free1 ! $ move ! (31 ∷ 32 ∷ []) $ free1 ! $ move ! (29 ∷ 30 ∷ []) $ free1 ! $ move ! (27 ∷ 28 ∷ []) $ free1 ! $ move ! (25 ∷ 26 ∷ []) $ free1 ! $ move ! (23 ∷ 24 ∷ []) $ free1 ! $ move ! (21 ∷ 22 ∷ []) $ free1 ! $ move ! (19 ∷ 20 ∷ []) $ free1 ! $ move ! (17 ∷ 18 ∷ []) $ free1 ! $ move ! (15 ∷ 16 ∷ []) $ free1 ! $ move ! (13 ∷ 14 ∷ []) $ free1 ! $ move ! (11 ∷ 12 ∷ []) $ free1 ! $ move ! (9 ∷ 10 ∷ []) $ free1 ! $ free0 ! $
-        keep ! (6 ∷ 4 ∷ 2 ∷ 3 ∷ 0 ∷ 1 ∷ 8 ∷ 7 ∷ 5 ∷ []) $ by ! (exits r-core w-core (ws-core .1 .1 .0) (ws-core .1 .1 .1 .0) len-core-policies len-core-counts (kept l-flows e0-load-it (λ (fs : List Flow). addOf (stateOf v-header l-tags l-policies l-counts fs) v-container v-policy) (λ fs. add-front (stateOf v-header l-tags l-policies l-counts fs) v-container v-policy) r-core l-tags (ws-core .1 .1 .0) (ws-core .1 .1 .1 .0) e0-core))))))))))))))))))))))))))))))))
+        keep ! (6 ∷ 4 ∷ 2 ∷ 3 ∷ 0 ∷ 1 ∷ 8 ∷ 7 ∷ 5 ∷ []) $ by ! (exits r-core w-core (ws-core .1 .1 .0) (ws-core .1 .1 .1 .0) len-core-policies len-core-counts (same-outcome l-flows e0-load-it outcomeBeyond (λ (fs : List Flow). leftBy r-core l-tags (ws-core .1 .1 .0) (ws-core .1 .1 .1 .0) fs) (λ (fs : List Flow). addOf (stateOf v-header l-tags l-policies l-counts fs) v-container v-policy) (λ more fs. refl) (λ fs. add-front (stateOf v-header l-tags l-policies l-counts fs) v-container v-policy) r-load-it (table-kept l-flows e0-load-it) e0-core))))))))))))))))))))))))))))))))
 
 module _ {M : Type 1} (𝓤 : URA M) (H : Heap 𝓤) (A : Atoms 𝓤) (W : Given 𝓤 H A) (mem : Memory → SProp 𝓤) (run : Routine → Fun 𝓤) where
   add-policy-walks : (𝓣 : Tables 𝓤 H) → Triple 𝓤 (𝓣 .C #flowslice·load) (Load 𝓤 H A mem run) → Triple 𝓤 (𝓣 .C #calls·add-policy) (Core 𝓤 H A mem run)

@@ -54,7 +54,7 @@ use Rattle.ranking.specs.Ranking.{Ranking, rankOf}
 use Rattle.ranking.specs.Replies.{rankedReply}
 use Rattle.flowslice.specs.Slice.{loadedFrom}
 use Rattle.front.specs.Front.{rank-front}
-use Rattle.tracker.specs.Lent.{asked}
+use Rattle.tracker.specs.Lent.{same-answer}
 use Rattle.flowslice.proofs.load as load-it
 use Rattle.flowslice.proofs.load.Symbol as load-it-def
 use Rattle.flowslice.proofs.load.Symbol.{name as #flowslice·load}
@@ -174,7 +174,7 @@ module _ {M : Type 1} (𝓤 : URA M) (H : Heap 𝓤) (A : Atoms 𝓤) (W : Given
         lft-end ! tt $ move ! (0 ∷ 6 ∷ 5 ∷ []) $ use3 W (later (‵ (MutSlice (named 4) κ-out u16 .own (r-out γ-out (ws-core .1 .1 .1 .1 .1 .1 .0)) (s-out ∷ [])) ⊛ ‵ (flft κ-out q-out))) (comes-back u16 κ-out (ν-core-out ∷ []) q-out γ-out b-out o-out 𝓤 H A W (named 4) (named 3) l-out δ-core-out (ws-core .1 .1 .1 .1 .1 .1 .0) room-out len-core-out) $ await ! tt $ split ! $
         returns ! (look ! 31 refl) $ forget ! 31 refl $ forget ! 29 refl $ forget ! 27 refl $ forget ! 25 refl $ forget ! 23 refl $ forget ! 21 refl $ forget ! 19 refl $ forget ! 17 refl $ forget ! 15 refl $ forget ! 13 refl $ forget ! 11 refl $
         move ! (31 ∷ 32 ∷ []) $ free1 ! $ move ! (29 ∷ 30 ∷ []) $ free1 ! $ move ! (27 ∷ 28 ∷ []) $ free1 ! $ move ! (25 ∷ 26 ∷ []) $ free1 ! $ move ! (23 ∷ 24 ∷ []) $ free1 ! $ move ! (21 ∷ 22 ∷ []) $ free1 ! $ move ! (19 ∷ 20 ∷ []) $ free1 ! $ move ! (17 ∷ 18 ∷ []) $ free1 ! $ move ! (15 ∷ 16 ∷ []) $ free1 ! $ move ! (13 ∷ 14 ∷ []) $ free1 ! $ move ! (11 ∷ 12 ∷ []) $ free1 ! $ free0 ! $
-        keep ! (8 ∷ 4 ∷ 7 ∷ 3 ∷ 6 ∷ 2 ∷ 10 ∷ 9 ∷ 0 ∷ 1 ∷ 5 ∷ []) $ by ! (exits r-core w-core (ws-core .1 .1 .1 .1 .1 .1 .0) len-core-out ((asked l-flows e0-load-it (λ (fs : List Flow). rankOf (stateOf v-header l-tags l-policies l-counts fs) l-out .refusal) (λ fs. ap (λ (a : Ranking). a .refusal) (rank-front (stateOf v-header l-tags l-policies l-counts fs) l-out)) e0-core, asked l-flows e0-load-it (λ (fs : List Flow). rankOf (stateOf v-header l-tags l-policies l-counts fs) l-out .output) (λ fs. ap (λ (a : Ranking). a .output) (rank-front (stateOf v-header l-tags l-policies l-counts fs) l-out)) e1-core))))))))))))))))))))))))))))
+        keep ! (8 ∷ 4 ∷ 7 ∷ 3 ∷ 6 ∷ 2 ∷ 10 ∷ 9 ∷ 0 ∷ 1 ∷ 5 ∷ []) $ by ! (exits r-core w-core (ws-core .1 .1 .1 .1 .1 .1 .0) len-core-out ((same-answer l-flows e0-load-it (λ (fs : List Flow). rankOf (stateOf v-header l-tags l-policies l-counts fs) l-out .refusal) (λ fs. ap (λ (a : Ranking). a .refusal) (rank-front (stateOf v-header l-tags l-policies l-counts fs) l-out)) e0-core, same-answer l-flows e0-load-it (λ (fs : List Flow). rankOf (stateOf v-header l-tags l-policies l-counts fs) l-out .output) (λ fs. ap (λ (a : Ranking). a .output) (rank-front (stateOf v-header l-tags l-policies l-counts fs) l-out)) e1-core))))))))))))))))))))))))))))
 
 module _ {M : Type 1} (𝓤 : URA M) (H : Heap 𝓤) (A : Atoms 𝓤) (W : Given 𝓤 H A) (mem : Memory → SProp 𝓤) (run : Routine → Fun 𝓤) where
   rank-walks : (𝓣 : Tables 𝓤 H) → Triple 𝓤 (𝓣 .C #flowslice·load) (Load 𝓤 H A mem run) → Triple 𝓤 (𝓣 .C #ranking·rank) (Core 𝓤 H A mem run)

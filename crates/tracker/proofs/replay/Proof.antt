@@ -44,18 +44,18 @@ use denote.Triple.Walked.{says, Stays, stay-slice, stay-none-slice, walkOf, Walk
 use Rattle.model.specs.declared.Flow.{Flow}
 use Rattle.model.proofs.Flow as Flow-T
 use Rattle.model.proofs.Flow.Laws as Flow-L
+use Rattle.replay.specs.declared.Played.{Played}
+use Rattle.replay.proofs.Played as Played-T
+use Rattle.replay.proofs.Played.Laws as Played-L
 use Rattle.replay.specs.declared.Replayed.{Replayed}
 use Rattle.replay.proofs.Replayed as Replayed-T
 use Rattle.replay.proofs.Replayed.Laws as Replayed-L
-use Rattle.replay.specs.declared.Run.{Run}
-use Rattle.replay.proofs.Run as Run-T
-use Rattle.replay.proofs.Run.Laws as Run-L
 use Rattle.state.specs.State.{storageOf}
 use Rattle.replay.specs.Replay.{replayOf}
 use Rattle.replay.specs.Replies.{replayBy}
 use Rattle.flowslice.specs.Slice.{loadedFrom, storedIn}
-use Rattle.front.specs.Front.{replay-front}
-use Rattle.tracker.specs.Lent.{replayed}
+use Rattle.front.specs.Front.{replayBeyond, replay-front}
+use Rattle.tracker.specs.Lent.{table-stored, same-outcome}
 use Rattle.flowslice.proofs.load as load-it
 use Rattle.flowslice.proofs.load.Symbol as load-it-def
 use Rattle.flowslice.proofs.load.Symbol.{name as #flowslice·load}
@@ -181,11 +181,11 @@ module _ {M : Type 1} (𝓤 : URA M) (H : Heap 𝓤) (A : Atoms 𝓤) (W : Given
         nothing ! $ owned ! Row512 (Is Row512) (array-makes 𝓤 H A W Flow-T.the-row (LL.makes Flow-T.the-type Flow-L.the-plain 𝓤 H A) 512) r-load-it (array-vals (LL.vals Flow-T.the-type Flow-L.the-laws) r-load-it) (known-at Row512 (array-vals (LL.vals Flow-T.the-type Flow-L.the-laws)) (array-tells Flow-T.the-row (LL.vals Flow-T.the-type Flow-L.the-laws) (LL.tells Flow-T.the-type Flow-L.the-laws) 512) r-load-it w-load-it is-load-it) $ fjoin ! $ owned ! usize (Is usize) (uint-makes 𝓤 H A W w64) (length l-flows) (uint-vals w64 (length l-flows)) (refl, room-flows .0) $ fjoin ! $ move ! (2 ∷ 0 ∷ []) $ fjoin ! $ move ! (3 ∷ 0 ∷ []) $ fjoin ! $ move ! (4 ∷ 0 ∷ []) $ fjoin ! $ move ! (5 ∷ 0 ∷ []) $ fjoin ! $
         move ! (1 ∷ 0 ∷ []) $ use2 W (raw ((Core 𝓤 H A mem run) .pre (((κ-bytes, ((ν-core-tags ∷ []), ((ν-core-policies ∷ []), ((ν-core-counts ∷ []), tt)))), (q-bytes, (fullShare, (fullShare, (fullShare, tt)))), tt, (r-bytes γ-bytes l-bytes, (r-tags δ-core-tags l-tags, (r-policies δ-core-policies l-policies, (r-counts δ-core-counts l-counts, ((length l-flows), (r-load-it, tt)))))), (s-bytes ∷ [], (s-tags ∷ [], (s-policies ∷ [], (s-counts ∷ [], (uint-vals w64 (length l-flows), (array-vals (LL.vals Flow-T.the-type Flow-L.the-laws) r-load-it, tt))))))), tt))) (asks-nothing 𝓤 _) $
         calls-at ! fm (Core 𝓤 H A mem run) known-core (((κ-bytes, ((ν-core-tags ∷ []), ((ν-core-policies ∷ []), ((ν-core-counts ∷ []), tt)))), (q-bytes, (fullShare, (fullShare, (fullShare, tt)))), tt, (r-bytes γ-bytes l-bytes, (r-tags δ-core-tags l-tags, (r-policies δ-core-policies l-policies, (r-counts δ-core-counts l-counts, ((length l-flows), (r-load-it, tt)))))), (s-bytes ∷ [], (s-tags ∷ [], (s-policies ∷ [], (s-counts ∷ [], (uint-vals w64 (length l-flows), (array-vals (LL.vals Flow-T.the-type Flow-L.the-laws) r-load-it, tt))))))), tt) (and-then ! (load ! (from ! (stop !)) (look ! 43 refl)) (and-then ! (load ! (from ! (stop !)) (look ! 23 refl)) (and-then ! (load ! (from ! (stop !)) (look ! 19 refl)) (and-then ! (load ! (from ! (stop !)) (look ! 15 refl)) (and-then ! (load ! (from ! (stop !)) (look ! 13 refl)) (and-then ! (load ! (from ! (stop !)) (look ! 33 refl)) (no-more !))))))) (λ w-core.
-        use1 W (later (some (λ (r-core : Run). ((‵ (flft κ-bytes q-bytes) ⊛ ‵ (flft (ν-core-tags ∷ []) fullShare) ⊛ ‵ (flft (ν-core-policies ∷ []) fullShare) ⊛ ‵ (flft (ν-core-counts ∷ []) fullShare) ⊛ ‵ ftrue) ⊛ ‵ (Run-T.the-row .own r-core (w-core ∷ []))) ⊛ raw (ensured 𝓤 H A core.ended (core.clauses 𝓤 H A mem run) (κ-bytes, ((ν-core-tags ∷ []), ((ν-core-policies ∷ []), ((ν-core-counts ∷ []), tt)))) (r-bytes γ-bytes l-bytes, (r-tags δ-core-tags l-tags, (r-policies δ-core-policies l-policies, (r-counts δ-core-counts l-counts, ((length l-flows), (r-load-it, tt)))))) tt r-core)))) (id⊢ 𝓤 _) $ await ! tt $ pick ! (λ r-core. split ! $
+        use1 W (later (some (λ (r-core : Played). ((‵ (flft κ-bytes q-bytes) ⊛ ‵ (flft (ν-core-tags ∷ []) fullShare) ⊛ ‵ (flft (ν-core-policies ∷ []) fullShare) ⊛ ‵ (flft (ν-core-counts ∷ []) fullShare) ⊛ ‵ ftrue) ⊛ ‵ (Played-T.the-row .own r-core (w-core ∷ []))) ⊛ raw (ensured 𝓤 H A core.ended (core.clauses 𝓤 H A mem run) (κ-bytes, ((ν-core-tags ∷ []), ((ν-core-policies ∷ []), ((ν-core-counts ∷ []), tt)))) (r-bytes γ-bytes l-bytes, (r-tags δ-core-tags l-tags, (r-policies δ-core-policies l-policies, (r-counts δ-core-counts l-counts, ((length l-flows), (r-load-it, tt)))))) tt r-core)))) (id⊢ 𝓤 _) $ await ! tt $ pick ! (λ r-core. split ! $
         move ! (1 ∷ []) $ use1 W (some (λ (ws-core : (Unit {0} × (List ℕ × (List ℕ × (List ℕ × (Unit {0} × (Unit {0} × Unit {0}))))))). ‵ (lasts core.ended (κ-bytes, ((ν-core-tags ∷ []), ((ν-core-policies ∷ []), ((ν-core-counts ∷ []), tt)))) (r-bytes γ-bytes l-bytes, (r-tags δ-core-tags l-tags, (r-policies δ-core-policies l-policies, (r-counts δ-core-counts l-counts, ((length l-flows), (r-load-it, tt)))))) ws-core) ⊛ (raw (fact 𝓤 (replayBy (r-core .replayed) (ws-core .1 .0) (ws-core .1 .1 .0) (ws-core .1 .1 .1 .0) (take (length l-flows) (r-core .flows)) ≡ replayOf l-bytes (storageOf l-tags l-policies l-counts (take (length l-flows) r-load-it)))) ⊛ raw (fact 𝓤 (storedIn 0 (r-core .end) (r-core .flows) r-load-it ≡ r-core .flows))))) (id⊢ 𝓤 _) $ pick ! (λ ws-core. split ! $ move ! (1 ∷ []) $ split ! $ heard ! (replayBy (r-core .replayed) (ws-core .1 .0) (ws-core .1 .1 .0) (ws-core .1 .1 .1 .0) (take (length l-flows) (r-core .flows)) ≡ replayOf l-bytes (storageOf l-tags l-policies l-counts (take (length l-flows) r-load-it))) (λ e0-core. heard ! (storedIn 0 (r-core .end) (r-core .flows) r-load-it ≡ r-core .flows) (λ e1-core.
         fsplit ! $ drop ! $ fsplit ! $ fsplit ! $ move ! (1 ∷ []) $ feqL ! (λ len-core-tags. move ! (1 ∷ []) $ fsplit ! $ fsplit ! $ move ! (1 ∷ []) $ feqL ! (λ len-core-policies. move ! (1 ∷ []) $ fsplit ! $ fsplit ! $ move ! (1 ∷ []) $ feqL ! (λ len-core-counts. move ! (1 ∷ []) $ fsplit ! $ drop ! $ fsplit ! $ drop ! $ drop ! $
-        move ! (3 ∷ []) $ split ! $ move ! (1 ∷ []) $ peeks ! Run-T.the-row (Is Run-T.the-row) (shows 𝓤 H A Run-T.the-row) r-core (w-core ∷ []) (λ is-core.
-        land ! (from ! (stop !)) (init ! 35 refl (LL.lawful Run-T.the-type Run-L.the-laws 𝓤 H A W .typed r-core _ is-core .0)) $ rewrite ! 35 (λ (u : Val). ‵ (fat fullShare (typeOf mir′.locals 7) l₇ 0 u)) (ap only (LL.tells Run-T.the-type Run-L.the-laws r-core (w-core ∷ []) is-core)) refl $
+        move ! (3 ∷ []) $ split ! $ move ! (1 ∷ []) $ peeks ! Played-T.the-row (Is Played-T.the-row) (shows 𝓤 H A Played-T.the-row) r-core (w-core ∷ []) (λ is-core.
+        land ! (from ! (stop !)) (init ! 35 refl (LL.lawful Played-T.the-type Played-L.the-laws 𝓤 H A W .typed r-core _ is-core .0)) $ rewrite ! 35 (λ (u : Val). ‵ (fat fullShare (typeOf mir′.locals 7) l₇ 0 u)) (ap only (LL.tells Played-T.the-type Played-L.the-laws r-core (w-core ∷ []) is-core)) refl $
         drop ! $ split ! $ move ! (1 ∷ []) $ split ! $ move ! (1 ∷ []) $ split ! $ move ! (1 ∷ []) $ split ! $ move ! (1 ∷ []) $ drop ! $
         move ! (2 ∷ []) $ lft-end ! tt $ move ! (0 ∷ 9 ∷ 6 ∷ []) $ use3 W (later (‵ (MutSlice (named 1) κ-tags u64 .own (r-tags γ-tags (ws-core .1 .0)) (s-tags ∷ [])) ⊛ ‵ (flft κ-tags q-tags))) (comes-back u64 κ-tags (ν-core-tags ∷ []) q-tags γ-tags b-tags o-tags 𝓤 H A W (named 1) (named 1) l-tags δ-core-tags (ws-core .1 .0) room-tags len-core-tags) $ await ! tt $ split ! $
         move ! (3 ∷ []) $ lft-end ! tt $ move ! (0 ∷ 8 ∷ 6 ∷ []) $ use3 W (later (‵ (MutSlice (named 2) κ-policies u64 .own (r-policies γ-policies (ws-core .1 .1 .0)) (s-policies ∷ [])) ⊛ ‵ (flft κ-policies q-policies))) (comes-back u64 κ-policies (ν-core-policies ∷ []) q-policies γ-policies b-policies o-policies 𝓤 H A W (named 2) (named 2) l-policies δ-core-policies (ws-core .1 .1 .0) room-policies len-core-policies) $ await ! tt $ split ! $
@@ -194,9 +194,9 @@ module _ {M : Type 1} (𝓤 : URA M) (H : Heap 𝓤) (A : Atoms 𝓤) (W : Given
         assigns ! (agg ! (and-then ! (load ! (from ! (stop !)) (look ! 12 refl)) (and-then ! (load ! (from ! (fld ! refl (stop !))) (look-in ! 38 (sub ! 1 refl (whole !)))) (no-more !)))) (from ! (stop !)) (init ! 10 refl (tt, (tt, (record { fits = room-flows .0 }, tt)))) $
         lft-new ! tt (λ ν-store-it-flows. move ! (9 ∷ 10 ∷ []) $ use2 W (later (some (λ (δ-store-it-flows : GName). ‵ (MutSlice (named 0) (ν-store-it-flows ∷ []) Flow-T.the-row .own (r-flows δ-store-it-flows l-flows) (s-flows ∷ [])) ⊛ ‵ (LentAgain Flow-T.the-row κ-flows (ν-store-it-flows ∷ []) q-flows γ-flows b-flows o-flows δ-store-it-flows l-flows)))) (lends-again Flow-T.the-row κ-flows (ν-store-it-flows ∷ []) q-flows γ-flows b-flows o-flows 𝓤 H A W (named 4) (named 0) l-flows) $ await ! tt $ pick ! (λ δ-store-it-flows. split ! $
         nothing ! $ move ! (3 ∷ 0 ∷ []) $ join ! $
-        nothing ! $ owned ! Row512 (Is Row512) (array-makes 𝓤 H A W Flow-T.the-row (LL.makes Flow-T.the-type Flow-L.the-plain 𝓤 H A) 512) (r-core .flows) ((valss (fields Run-T.the-type) (LL.spells (Run-T.the-type .parts) Run-L.the-laws) (Run-T.the-type .to r-core) .1 .1 .0)) (rows-at (r-core .flows) 512 (valss (fields Run-T.the-type) (LL.spells (Run-T.the-type .parts) Run-L.the-laws) (Run-T.the-type .to r-core) .1 .1 .0) (LL.owed Run-T.the-type Run-L.the-laws r-core _ (known-at Run-T.the-row (LL.vals Run-T.the-type Run-L.the-laws) (LL.tells Run-T.the-type Run-L.the-laws) r-core w-core is-core) .1 .1 .0)) $ fjoin ! $ owned ! usize (Is usize) (uint-makes 𝓤 H A W w64) (r-core .end) (uint-vals w64 (r-core .end)) (LL.owed Run-T.the-type Run-L.the-laws r-core _ (known-at Run-T.the-row (LL.vals Run-T.the-type Run-L.the-laws) (LL.tells Run-T.the-type Run-L.the-laws) r-core w-core is-core) .1 .0) $ fjoin ! $ owned ! usize (Is usize) (uint-makes 𝓤 H A W w64) 0 (uint-vals w64 0) (refl, lit< tt) $ fjoin ! $ move ! (2 ∷ 0 ∷ []) $ fjoin ! $
-        move ! (1 ∷ 0 ∷ []) $ use2 W (raw ((Store 𝓤 H A mem run) .pre ((((ν-store-it-flows ∷ []), tt), (fullShare, tt), tt, (r-flows δ-store-it-flows l-flows, (0, ((r-core .end), ((r-core .flows), tt)))), (s-flows ∷ [], (uint-vals w64 0, (uint-vals w64 (r-core .end), ((valss (fields Run-T.the-type) (LL.spells (Run-T.the-type .parts) Run-L.the-laws) (Run-T.the-type .to r-core) .1 .1 .0), tt))))), tt))) (asks-nothing 𝓤 _) $
-        calls-at ! fm (Store 𝓤 H A mem run) known-store-it ((((ν-store-it-flows ∷ []), tt), (fullShare, tt), tt, (r-flows δ-store-it-flows l-flows, (0, ((r-core .end), ((r-core .flows), tt)))), (s-flows ∷ [], (uint-vals w64 0, (uint-vals w64 (r-core .end), ((valss (fields Run-T.the-type) (LL.spells (Run-T.the-type .parts) Run-L.the-laws) (Run-T.the-type .to r-core) .1 .1 .0), tt))))), tt) (and-then ! (load ! (from ! (stop !)) (look ! 10 refl)) (and-then ! (lit ! tt) (and-then ! (load ! (from ! (fld ! refl (stop !))) (look-in ! 34 (sub ! 1 refl (whole !)))) (and-then ! (load ! (from ! (fld ! refl (stop !))) (look-in ! 34 (sub ! 2 refl (whole !)))) (no-more !))))) (λ w-store-it.
+        nothing ! $ owned ! Row512 (Is Row512) (array-makes 𝓤 H A W Flow-T.the-row (LL.makes Flow-T.the-type Flow-L.the-plain 𝓤 H A) 512) (r-core .flows) ((valss (fields Played-T.the-type) (LL.spells (Played-T.the-type .parts) Played-L.the-laws) (Played-T.the-type .to r-core) .1 .1 .0)) (rows-at (r-core .flows) 512 (valss (fields Played-T.the-type) (LL.spells (Played-T.the-type .parts) Played-L.the-laws) (Played-T.the-type .to r-core) .1 .1 .0) (LL.owed Played-T.the-type Played-L.the-laws r-core _ (known-at Played-T.the-row (LL.vals Played-T.the-type Played-L.the-laws) (LL.tells Played-T.the-type Played-L.the-laws) r-core w-core is-core) .1 .1 .0)) $ fjoin ! $ owned ! usize (Is usize) (uint-makes 𝓤 H A W w64) (r-core .end) (uint-vals w64 (r-core .end)) (LL.owed Played-T.the-type Played-L.the-laws r-core _ (known-at Played-T.the-row (LL.vals Played-T.the-type Played-L.the-laws) (LL.tells Played-T.the-type Played-L.the-laws) r-core w-core is-core) .1 .0) $ fjoin ! $ owned ! usize (Is usize) (uint-makes 𝓤 H A W w64) 0 (uint-vals w64 0) (refl, lit< tt) $ fjoin ! $ move ! (2 ∷ 0 ∷ []) $ fjoin ! $
+        move ! (1 ∷ 0 ∷ []) $ use2 W (raw ((Store 𝓤 H A mem run) .pre ((((ν-store-it-flows ∷ []), tt), (fullShare, tt), tt, (r-flows δ-store-it-flows l-flows, (0, ((r-core .end), ((r-core .flows), tt)))), (s-flows ∷ [], (uint-vals w64 0, (uint-vals w64 (r-core .end), ((valss (fields Played-T.the-type) (LL.spells (Played-T.the-type .parts) Played-L.the-laws) (Played-T.the-type .to r-core) .1 .1 .0), tt))))), tt))) (asks-nothing 𝓤 _) $
+        calls-at ! fm (Store 𝓤 H A mem run) known-store-it ((((ν-store-it-flows ∷ []), tt), (fullShare, tt), tt, (r-flows δ-store-it-flows l-flows, (0, ((r-core .end), ((r-core .flows), tt)))), (s-flows ∷ [], (uint-vals w64 0, (uint-vals w64 (r-core .end), ((valss (fields Played-T.the-type) (LL.spells (Played-T.the-type .parts) Played-L.the-laws) (Played-T.the-type .to r-core) .1 .1 .0), tt))))), tt) (and-then ! (load ! (from ! (stop !)) (look ! 10 refl)) (and-then ! (lit ! tt) (and-then ! (load ! (from ! (fld ! refl (stop !))) (look-in ! 34 (sub ! 1 refl (whole !)))) (and-then ! (load ! (from ! (fld ! refl (stop !))) (look-in ! 34 (sub ! 2 refl (whole !)))) (no-more !))))) (λ w-store-it.
         use1 W (later (some (λ (r-store-it : Unit {0}). ((‵ (flft (ν-store-it-flows ∷ []) fullShare) ⊛ ‵ ftrue) ⊛ ‵ (Nothing .own r-store-it (w-store-it ∷ []))) ⊛ raw (ensured 𝓤 H A store-it.ended (store-it.clauses 𝓤 H A mem run) ((ν-store-it-flows ∷ []), tt) (r-flows δ-store-it-flows l-flows, (0, ((r-core .end), ((r-core .flows), tt)))) tt r-store-it)))) (id⊢ 𝓤 _) $ await ! tt $ pick ! (λ r-store-it. split ! $
         move ! (1 ∷ []) $ use1 W (some (λ (ws-store-it : (List Flow × (Unit {0} × (Unit {0} × (Unit {0} × Unit {0}))))). ‵ (lasts store-it.ended ((ν-store-it-flows ∷ []), tt) (r-flows δ-store-it-flows l-flows, (0, ((r-core .end), ((r-core .flows), tt)))) ws-store-it) ⊛ raw (fact 𝓤 ((ws-store-it .0) ≡ storedIn 0 (r-core .end) (r-core .flows) l-flows)))) (id⊢ 𝓤 _) $ pick ! (λ ws-store-it. split ! $ move ! (1 ∷ []) $ heard ! ((ws-store-it .0) ≡ storedIn 0 (r-core .end) (r-core .flows) l-flows) (λ e0-store-it.
         fsplit ! $ fsplit ! $ move ! (1 ∷ []) $ feqL ! (λ len-store-it-flows. move ! (1 ∷ []) $ fsplit ! $ drop ! $ fsplit ! $ drop ! $ fsplit ! $ drop ! $ drop ! $
@@ -204,10 +204,10 @@ module _ {M : Type 1} (𝓤 : URA M) (H : Heap 𝓤) (A : Atoms 𝓤) (W : Given
         land ! (from ! (stop !)) (init ! 16 refl (nothing-lawful 𝓤 H A W .typed r-store-it _ is-store-it .0)) $
         drop ! $ split ! $ move ! (1 ∷ []) $ drop ! $
         lft-end ! tt $ move ! (0 ∷ 2 ∷ 1 ∷ []) $ use3 W (later (‵ (MutSlice (named 4) κ-flows Flow-T.the-row .own (r-flows γ-flows (ws-store-it .0)) (s-flows ∷ [])) ⊛ ‵ (flft κ-flows q-flows))) (comes-back Flow-T.the-row κ-flows (ν-store-it-flows ∷ []) q-flows γ-flows b-flows o-flows 𝓤 H A W (named 4) (named 0) l-flows δ-store-it-flows (ws-store-it .0) room-flows len-store-it-flows) $ await ! tt $ split ! $
-        assigns ! (of-opd ! (load ! (from ! (fld ! refl (stop !))) (look-in ! 34 (sub ! 0 refl (whole !))))) (from ! (stop !)) (init ! 48 refl (LL.lawful Replayed-T.the-type Replayed-L.the-laws 𝓤 H A W .typed (r-core .replayed) _ (LL.owed Run-T.the-type Run-L.the-laws r-core _ (known-at Run-T.the-row (LL.vals Run-T.the-type Run-L.the-laws) (LL.tells Run-T.the-type Run-L.the-laws) r-core w-core is-core) .0) .0)) $
+        assigns ! (of-opd ! (load ! (from ! (fld ! refl (stop !))) (look-in ! 34 (sub ! 0 refl (whole !))))) (from ! (stop !)) (init ! 48 refl (LL.lawful Replayed-T.the-type Replayed-L.the-laws 𝓤 H A W .typed (r-core .replayed) _ (LL.owed Played-T.the-type Played-L.the-laws r-core _ (known-at Played-T.the-row (LL.vals Played-T.the-type Played-L.the-laws) (LL.tells Played-T.the-type Played-L.the-laws) r-core w-core is-core) .0) .0)) $
         returns ! (look ! 48 refl) $ forget ! 48 refl $ forget ! 46 refl $ forget ! 44 refl $ forget ! 42 refl $ forget ! 40 refl $ forget ! 38 refl $ forget ! 36 refl $ forget ! 34 refl $ forget ! 32 refl $ forget ! 30 refl $ forget ! 28 refl $ forget ! 26 refl $ forget ! 24 refl $ forget ! 22 refl $ forget ! 20 refl $ forget ! 18 refl $ forget ! 16 refl $ forget ! 14 refl $ forget ! 12 refl $ forget ! 10 refl $
         move ! (48 ∷ 49 ∷ []) $ free1 ! $ move ! (46 ∷ 47 ∷ []) $ free1 ! $ move ! (44 ∷ 45 ∷ []) $ free1 ! $ move ! (42 ∷ 43 ∷ []) $ free1 ! $ move ! (40 ∷ 41 ∷ []) $ free1 ! $ move ! (38 ∷ 39 ∷ []) $ free1 ! $ move ! (36 ∷ 37 ∷ []) $ free1 ! $ move ! (34 ∷ 35 ∷ []) $ free1 ! $ move ! (32 ∷ 33 ∷ []) $ free1 ! $ move ! (30 ∷ 31 ∷ []) $ free1 ! $ move ! (28 ∷ 29 ∷ []) $ free1 ! $ move ! (26 ∷ 27 ∷ []) $ free1 ! $ move ! (24 ∷ 25 ∷ []) $ free1 ! $ move ! (22 ∷ 23 ∷ []) $ free1 ! $ move ! (20 ∷ 21 ∷ []) $ free1 ! $ move ! (18 ∷ 19 ∷ []) $ free1 ! $ move ! (16 ∷ 17 ∷ []) $ free1 ! $ move ! (14 ∷ 15 ∷ []) $ free1 ! $ move ! (12 ∷ 13 ∷ []) $ free1 ! $ move ! (10 ∷ 11 ∷ []) $ free1 ! $ free0 ! $
-        keep ! (9 ∷ 8 ∷ 6 ∷ 7 ∷ 4 ∷ 5 ∷ 2 ∷ 3 ∷ 0 ∷ 1 ∷ []) $ by ! (exits (r-core .replayed) (LL.owed Run-T.the-type Run-L.the-laws r-core _ (known-at Run-T.the-row (LL.vals Run-T.the-type Run-L.the-laws) (LL.tells Run-T.the-type Run-L.the-laws) r-core w-core is-core) .0) (ws-core .1 .0) (ws-core .1 .1 .0) (ws-core .1 .1 .1 .0) (ws-store-it .0) len-core-tags len-core-policies len-core-counts len-store-it-flows (replayed l-flows e0-load-it 0 (r-core .end) (r-core .flows) e1-core e0-store-it (λ (fs : List Flow). replayOf l-bytes (storageOf l-tags l-policies l-counts fs)) (λ fs. replay-front l-bytes (storageOf l-tags l-policies l-counts fs)) (r-core .replayed) (ws-core .1 .0) (ws-core .1 .1 .0) (ws-core .1 .1 .1 .0) e0-core))))))))))))))))))))))))))))))))))))))))))))))))))))
+        keep ! (9 ∷ 8 ∷ 6 ∷ 7 ∷ 4 ∷ 5 ∷ 2 ∷ 3 ∷ 0 ∷ 1 ∷ []) $ by ! (exits (r-core .replayed) (LL.owed Played-T.the-type Played-L.the-laws r-core _ (known-at Played-T.the-row (LL.vals Played-T.the-type Played-L.the-laws) (LL.tells Played-T.the-type Played-L.the-laws) r-core w-core is-core) .0) (ws-core .1 .0) (ws-core .1 .1 .0) (ws-core .1 .1 .1 .0) (ws-store-it .0) len-core-tags len-core-policies len-core-counts len-store-it-flows (same-outcome l-flows e0-load-it replayBeyond (λ (fs : List Flow). replayBy (r-core .replayed) (ws-core .1 .0) (ws-core .1 .1 .0) (ws-core .1 .1 .1 .0) fs) (λ (fs : List Flow). replayOf l-bytes (storageOf l-tags l-policies l-counts fs)) (λ more fs. refl) (λ fs. replay-front l-bytes (storageOf l-tags l-policies l-counts fs)) (r-core .flows) (table-stored l-flows e0-load-it 0 (r-core .end) (r-core .flows) e1-core e0-store-it) e0-core))))))))))))))))))))))))))))))))))))))))))))))))))))
 
 module _ {M : Type 1} (𝓤 : URA M) (H : Heap 𝓤) (A : Atoms 𝓤) (W : Given 𝓤 H A) (mem : Memory → SProp 𝓤) (run : Routine → Fun 𝓤) where
   replay-walks : (𝓣 : Tables 𝓤 H) → Triple 𝓤 (𝓣 .C #flowslice·load) (Load 𝓤 H A mem run) → Triple 𝓤 (𝓣 .C #replay·replay) (Core 𝓤 H A mem run) → Triple 𝓤 (𝓣 .C #flowslice·store) (Store 𝓤 H A mem run)

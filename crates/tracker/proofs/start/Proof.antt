@@ -53,8 +53,8 @@ use Rattle.state.specs.State.{storageOf}
 use Rattle.outcome.specs.Outcome.{startOf}
 use Rattle.calls.specs.Replies.{leftBy}
 use Rattle.flowslice.specs.Slice.{loadedFrom, storedIn}
-use Rattle.front.specs.Front.{start-front}
-use Rattle.tracker.specs.Lent.{called}
+use Rattle.front.specs.Front.{outcomeBeyond, start-front}
+use Rattle.tracker.specs.Lent.{table-stored, same-outcome}
 use Rattle.flowslice.proofs.load as load-it
 use Rattle.flowslice.proofs.load.Symbol as load-it-def
 use Rattle.flowslice.proofs.load.Symbol.{name as #flowslice·load}
@@ -199,7 +199,7 @@ module _ {M : Type 1} (𝓤 : URA M) (H : Heap 𝓤) (A : Atoms 𝓤) (W : Given
         assigns ! (of-opd ! (load ! (from ! (fld ! refl (stop !))) (look-in ! 32 (sub ! 0 refl (whole !))))) (from ! (stop !)) (init ! 46 refl (LL.lawful Answered-T.the-type Answered-L.the-laws 𝓤 H A W .typed (r-core .answered) _ (LL.owed Change-T.the-type Change-L.the-laws r-core _ (known-at Change-T.the-row (LL.vals Change-T.the-type Change-L.the-laws) (LL.tells Change-T.the-type Change-L.the-laws) r-core w-core is-core) .0) .0)) $
         returns ! (look ! 46 refl) $ forget ! 46 refl $ forget ! 44 refl $ forget ! 42 refl $ forget ! 40 refl $ forget ! 38 refl $ forget ! 36 refl $ forget ! 34 refl $ forget ! 32 refl $ forget ! 30 refl $ forget ! 28 refl $ forget ! 26 refl $ forget ! 24 refl $ forget ! 22 refl $ forget ! 20 refl $ forget ! 18 refl $ forget ! 16 refl $ forget ! 14 refl $ forget ! 12 refl $ forget ! 10 refl $ forget ! 8 refl $
         move ! (46 ∷ 47 ∷ []) $ free1 ! $ move ! (44 ∷ 45 ∷ []) $ free1 ! $ move ! (42 ∷ 43 ∷ []) $ free1 ! $ move ! (40 ∷ 41 ∷ []) $ free1 ! $ move ! (38 ∷ 39 ∷ []) $ free1 ! $ move ! (36 ∷ 37 ∷ []) $ free1 ! $ move ! (34 ∷ 35 ∷ []) $ free1 ! $ move ! (32 ∷ 33 ∷ []) $ free1 ! $ move ! (30 ∷ 31 ∷ []) $ free1 ! $ move ! (28 ∷ 29 ∷ []) $ free1 ! $ move ! (26 ∷ 27 ∷ []) $ free1 ! $ move ! (24 ∷ 25 ∷ []) $ free1 ! $ move ! (22 ∷ 23 ∷ []) $ free1 ! $ move ! (20 ∷ 21 ∷ []) $ free1 ! $ move ! (18 ∷ 19 ∷ []) $ free1 ! $ move ! (16 ∷ 17 ∷ []) $ free1 ! $ move ! (14 ∷ 15 ∷ []) $ free1 ! $ move ! (12 ∷ 13 ∷ []) $ free1 ! $ move ! (10 ∷ 11 ∷ []) $ free1 ! $ move ! (8 ∷ 9 ∷ []) $ free1 ! $ free0 ! $
-        keep ! (6 ∷ 7 ∷ 4 ∷ 5 ∷ 2 ∷ 3 ∷ 0 ∷ 1 ∷ []) $ by ! (exits (r-core .answered) (LL.owed Change-T.the-type Change-L.the-laws r-core _ (known-at Change-T.the-row (LL.vals Change-T.the-type Change-L.the-laws) (LL.tells Change-T.the-type Change-L.the-laws) r-core w-core is-core) .0) (ws-core .1 .0) (ws-core .1 .1 .0) (ws-core .1 .1 .1 .0) (ws-store-it .0) len-core-tags len-core-policies len-core-counts len-store-it-flows (called l-flows e0-load-it (r-core .first) (r-core .end) (r-core .flows) e1-core e0-store-it (λ (fs : List Flow). startOf v-n (storageOf l-tags l-policies l-counts fs)) (λ fs. start-front v-n (storageOf l-tags l-policies l-counts fs)) (r-core .answered) (ws-core .1 .0) (ws-core .1 .1 .0) (ws-core .1 .1 .1 .0) e0-core))))))))))))))))))))))))))))))))))))))))))))))))))))
+        keep ! (6 ∷ 7 ∷ 4 ∷ 5 ∷ 2 ∷ 3 ∷ 0 ∷ 1 ∷ []) $ by ! (exits (r-core .answered) (LL.owed Change-T.the-type Change-L.the-laws r-core _ (known-at Change-T.the-row (LL.vals Change-T.the-type Change-L.the-laws) (LL.tells Change-T.the-type Change-L.the-laws) r-core w-core is-core) .0) (ws-core .1 .0) (ws-core .1 .1 .0) (ws-core .1 .1 .1 .0) (ws-store-it .0) len-core-tags len-core-policies len-core-counts len-store-it-flows (same-outcome l-flows e0-load-it outcomeBeyond (λ (fs : List Flow). leftBy (r-core .answered) (ws-core .1 .0) (ws-core .1 .1 .0) (ws-core .1 .1 .1 .0) fs) (λ (fs : List Flow). startOf v-n (storageOf l-tags l-policies l-counts fs)) (λ more fs. refl) (λ fs. start-front v-n (storageOf l-tags l-policies l-counts fs)) (r-core .flows) (table-stored l-flows e0-load-it (r-core .first) (r-core .end) (r-core .flows) e1-core e0-store-it) e0-core))))))))))))))))))))))))))))))))))))))))))))))))))))
 
 module _ {M : Type 1} (𝓤 : URA M) (H : Heap 𝓤) (A : Atoms 𝓤) (W : Given 𝓤 H A) (mem : Memory → SProp 𝓤) (run : Routine → Fun 𝓤) where
   start-walks : (𝓣 : Tables 𝓤 H) → Triple 𝓤 (𝓣 .C #flowslice·load) (Load 𝓤 H A mem run) → Triple 𝓤 (𝓣 .C #calls·start) (Core 𝓤 H A mem run) → Triple 𝓤 (𝓣 .C #flowslice·store) (Store 𝓤 H A mem run)
