@@ -48,7 +48,7 @@ use Rattle.calls.specs.declared.Answered.{Answered}
 use Rattle.calls.specs.Replies.{answerOf, answer-injective, leftBy}
 use Rattle.calls.specs.Unjudged.{applyEnableOf, applyDisableOf}
 use Rattle.calls.specs.UnjudgedLaws.{passes-propagate, passes-gain, apply-enable-refusal, apply-enable-refused, apply-disable-refusal, apply-disable-refused, apply-enable, apply-disable}
-use Rattle.claims.specs.Running.{StartDoes, start-does, EnableDoes, enable-does, DisableDoes, disable-does, AddDoes, add-does, Called, called-is, called-of, called-on, replay-left, tally-left}
+use Rattle.claims.specs.Running.{withNewTable, StartDoes, start-does, EnableDoes, enable-does, DisableDoes, disable-does, AddDoes, add-does, Called, called-is, called-of, called-on, replay-left, tally-left}
 use Rattle.outcome.specs.Outcome.{Outcome, startOrder, enableLater, disableLater, startOf, propagated, gainOf, enableOf, disableOf, addOf, Call, ask, add, orderOf, outcomeOf, eventsOf, after, configurationOf}
 use Rattle.outcome.specs.Refusals.{start-refusal, start-refused, call-refusal, call-refused}
 use Rattle.outcome.specs.Table.{StartAnswers, start-answers, EnableAnswers, enable-answers, DisableAnswers, disable-answers, AddAnswers, add-answers}
@@ -97,7 +97,7 @@ use Rattle.claims.specs.Permission.{takes, givenTo, SameSets, Known, tak
 -- SomeField, IsUnknown (eventlog/specs/Refusals.antt); IsEvent, IsRecord, IsLog, complete (Laws.antt, LogLaws.antt), AreEvents (Records.antt);
 -- ContainersAnswers, AllAccepted, gainsOf, Completes, Stops, Replays (replay/specs/Laws.antt); joining, doneOf (Joins.antt); lineWith, IsLine
 -- (tallytext/specs/Words.antt, Laws.antt); takes, givenTo, SameSets, Known (Permission.antt); StartDoes, EventDoes, EnableDoes, DisableDoes, AddDoes,
--- Called (Running.antt); lentFront, frontOf, outcomeBeyond, replayBeyond (front/specs/Front.antt); Standing, Accepted, Occurs, MayEnable, Within (model/specs/Standing.antt, Histories.antt, Closure.antt).
+-- Called, withNewTable (Running.antt); lentFront, frontOf, outcomeBeyond, replayBeyond (front/specs/Front.antt); Standing, Accepted, Occurs, MayEnable, Within (model/specs/Standing.antt, Histories.antt, Closure.antt).
 
 -- DEMAND 1: the work, or the refusal that comes first in the paper's order; a refused event changes nothing
 
@@ -736,17 +736,20 @@ what-replay-does bs lent r tags policies counts flows e = (
 )
 
 -- and of `tally` that runs (report/src/lib.rt), in lent lists and a table of its own, of zeros: its text, written whole or not at all, and the tracker as the run leaves it
-pub what-tally-does : (bs : List ℕ) (lent : Storage) (out left : List ℕ) (r : Tallied) (tags policies counts : List ℕ)
-    → writingOf (r .reply) ≡ tallyOf bs lent out .answer → left ≡ tallyOf bs lent out .output
-    → stateOf (r .header) tags policies counts (r .flows) ≡ leftOf bs lent
+pub what-tally-does : (bs lentTags lentPolicies lentCounts out left : List ℕ) (r : Tallied) (tags policies counts : List ℕ)
+    → (let lent = withNewTable lentTags lentPolicies lentCounts in
+    writingOf (r .reply) ≡ tallyOf bs lent out .answer → left ≡ tallyOf bs lent out .output → stateOf (r .header) tags policies counts (r .flows) ≡ leftOf bs lent
     → (length (textOf bs lent) ≤ length out → (writingOf (r .reply) ≡ wrote (length (textOf bs lent))) × (left ≡ textOf bs lent ++ drop (length (textOf bs lent)) out))
     × (length out < length (textOf bs lent) → (writingOf (r .reply) ≡ unwritten 10) × (left ≡ out))
     × (length bs ≤ 16384 → stateOf (r .header) tags policies counts (r .flows) ≡ replayOf bs lent .state)
-what-tally-does bs lent out left r tags policies counts a o s = (
-  λ h. let w = tally-fits bs lent out h in (a ∙ w .0, o ∙ w .1),
-  λ h. let w = tally-short bs lent out h in (a ∙ w .0, o ∙ w .1),
-  λ h. s ∙ left-of-replay bs lent h,
-)
+    × (16384 < length bs → stateOf (r .header) tags policies counts (r .flows) ≡ record { header = record { containers = 0; count = 0; greatest = 0 }; storage = lent }))
+what-tally-does bs lentTags lentPolicies lentCounts out left r tags policies counts a o s =
+    let lent = withNewTable lentTags lentPolicies lentCounts in (
+      λ h. let w = tally-fits bs lent out h in (a ∙ w .0, o ∙ w .1),
+      λ h. let w = tally-short bs lent out h in (a ∙ w .0, o ∙ w .1),
+      λ h. s ∙ left-of-replay bs lent h,
+      λ h. s ∙ left-of-long-input bs lent h,
+    )
 
 -- PROPAGATION runs in passes. One pass gives each container what it had, and what the sources of its edges had when the pass began
 pub a-pass-reads-the-sets-found : (n : ℕ) (es : List (ℕ × ℕ)) (ws : List ℕ) → 4 * n ≤ length ws → (c t : ℕ) → c < n
@@ -797,9 +800,10 @@ pub every-replay-can-be-made : (bs : List ℕ) (lent : Storage) → IsBytes bs
     × (replayBy r (replayOf bs lent .state .storage .tags) (replayOf bs lent .state .storage .policies) (replayOf bs lent .state .storage .policyCounts) (replayOf bs lent .state .storage .flows) ≡ replayOf bs lent)
 every-replay-can-be-made = replay-left
 
-pub every-tally-can-be-made : (bs : List ℕ) (lent : Storage) (out : List ℕ)
-    → (r : Tallied) × (writingOf (r .reply) ≡ tallyOf bs lent out .answer)
-    × (stateOf (r .header) (leftOf bs lent .storage .tags) (leftOf bs lent .storage .policies) (leftOf bs lent .storage .policyCounts) (r .flows) ≡ leftOf bs lent)
+pub every-tally-can-be-made : (bs tags policies counts out : List ℕ)
+    → (let lent = withNewTable tags policies counts in
+    (r : Tallied) × (writingOf (r .reply) ≡ tallyOf bs lent out .answer)
+    × (stateOf (r .header) (leftOf bs lent .storage .tags) (leftOf bs lent .storage .policies) (leftOf bs lent .storage .policyCounts) (r .flows) ≡ leftOf bs lent))
 every-tally-can-be-made = tally-left
 
 pub calls-can-go-on : (n : ℕ) (lent : Storage) (done : List Call) (s : State) → Called n lent done s

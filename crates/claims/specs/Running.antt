@@ -6,11 +6,11 @@ use mathlib.Core.Logic.{_↔_, _≢_, by-cases}
 use Prim.Native.Nat.{ℕ, zero, suc, _+_, _≤_}
 use native.Mathlib.Decide.{decLt}
 use native.Mathlib.Omega.{arith}
-use lib.ListN.{length}
+use lib.ListN.{length, replicate}
 use Rattle.model.specs.declared.Flow.{Flow}
 use Rattle.model.specs.Model.{enable, disable, without}
 use Rattle.tagset.specs.declared.TagSet.{TagSet}
-use Rattle.state.specs.State.{Storage, State, stateOf, flowsOf}
+use Rattle.state.specs.State.{Storage, State, storageOf, stateOf, flowsOf, noFlow}
 use Rattle.state.specs.Layout.{Fit64}
 use Rattle.state.specs.IsValid.{IsValid, Usable}
 use Rattle.tagstore.specs.Store.{totalOf}
@@ -156,6 +156,10 @@ add-does s c p =
       keeps-valid = call-keeps IsValid s (add c p) (λ s u. u .valid);
     }
 
+-- the storage that `tally` runs in: these lists, and a new table of its own
+abbrev pub withNewTable : List ℕ → List ℕ → List ℕ → Storage
+withNewTable tags policies counts = storageOf tags policies counts (replicate 512 noFlow)
+
 -- CALLS ONE AFTER THE OTHER: a start that was accepted, or a replay or a `tally` whose n and storage were, complete or refused partway; then calls, each on the header
 -- that the call before gave back and the lists that it left, refused or not. What is known of each call is its contract's equation alone. A replay counts as
 -- starting and the calls of its events: of those that its bytes hold, the first that join (`doneOf`), found from the bytes alone
@@ -166,6 +170,7 @@ pub data Called (n : ℕ) (lent : Storage) : List Call → State → Type 0 wher
       → (r : Replayed) (tags policies counts : List ℕ) (flows : List Flow) → replayBy r tags policies counts flows ≡ replayOf bs lent
       → Called n lent (map callOf (doneOf bs)) (replayBy r tags policies counts flows .state)
   tallied : (bs : List ℕ) (are : IsBytes bs) (accepts : containersIn bs lent .refusal ≡ 0) → headAt bs .value ≡ n → length bs ≤ 16384
+      → lent ≡ withNewTable (lent .tags) (lent .policies) (lent .policyCounts)
       → (r : Tallied) (tags policies counts : List ℕ) → stateOf (r .header) tags policies counts (r .flows) ≡ leftOf bs lent
       → Called n lent (map callOf (doneOf bs)) (stateOf (r .header) tags policies counts (r .flows))
   called : {cs : List Call} {s : State} → Called n lent cs s → (c : Call) (r : Answered) (tags policies counts : List ℕ) (flows : List Flow)
@@ -194,7 +199,7 @@ unfolding after
 called-is (begun r tags policies counts flows e a) = (ap (λ (o : Outcome). o .answer .refusal) (sym e) ∙ a, ap (λ (o : Outcome). o .state) e)
 called-is {n} {lent} (replayed bs are accepts e r tags policies counts flows q) =
     let w = replayed-is bs lent are accepts e in (w .0, ap (λ (x : Replay). x .state) q ∙ w .1)
-called-is {n} {lent} (tallied bs are accepts e short r tags policies counts q) =
+called-is {n} {lent} (tallied bs are accepts e short new r tags policies counts q) =
     let w = replayed-is bs lent are accepts e in (w .0, q ∙ left-of-replay bs lent short ∙ w .1)
 called-is {n} {lent} (called {cs} {s} x c r tags policies counts flows e) =
     let w = called-is x in
@@ -299,9 +304,11 @@ called-of n lent a cs =
     o = startOf n lent
 
 -- what a `tally` writes and leaves is given back by some answer
-pub tally-left : (bs : List ℕ) (lent : Storage) (out : List ℕ)
-    → (r : Tallied) × (writingOf (r .reply) ≡ tallyOf bs lent out .answer)
-    × (stateOf (r .header) (leftOf bs lent .storage .tags) (leftOf bs lent .storage .policies) (leftOf bs lent .storage .policyCounts) (r .flows) ≡ leftOf bs lent)
-tally-left bs lent out =
+pub tally-left : (bs tags policies counts out : List ℕ)
+    → (let lent = withNewTable tags policies counts in
+    (r : Tallied) × (writingOf (r .reply) ≡ tallyOf bs lent out .answer)
+    × (stateOf (r .header) (leftOf bs lent .storage .tags) (leftOf bs lent .storage .policies) (leftOf bs lent .storage .policyCounts) (r .flows) ≡ leftOf bs lent))
+tally-left bs tags policies counts out =
+    let lent = withNewTable tags policies counts in
     let x = leftOf bs lent in
     let w = written-by out 0 (textOf bs lent) in (record { reply = w .0; header = x .header; flows = x .storage .flows }, w .1, refl)

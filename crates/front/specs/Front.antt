@@ -3,13 +3,12 @@ use mathlib.Core.Path.{_≡_, refl, sym, ap, ap₂, _∙_}
 use mathlib.Core.Bool.{Bool}
 use mathlib.Core.Logic.{by-cases}
 use mathlib.Core.List.{List, [], _∷_, _++_, append-assoc}
-use Prim.Native.Nat.{ℕ, zero, suc, _+_, _≤_}
+use Prim.Native.Nat.{ℕ, zero, suc, _+_, _≤_, min}
 use native.Mathlib.Decide.{decLt, ℕ-discrete}
 use native.Mathlib.Omega.{arith}
 use lib.Dec.{ltb}
 use lib.ListN.{length, take, drop, length-take, take-append-drop, drop-of-length-le}
 use lib.Seq.{take-take, take-at, drop-at, length-take-le}
-use borrow.Author.Tests.{lt-ltb, le-ltb}
 use Rattle.refusal.specs.Order.{firstOf}
 use Rattle.leb128.specs.Answer.{Reading}
 use Rattle.eventlog.specs.declared.Event.{Event}
@@ -21,6 +20,7 @@ use Rattle.tagset.specs.declared.TagSet.{TagSet}
 use Rattle.state.specs.State.{Storage, State, storageOf, badSize, flowsOf, withFlows}
 use Rattle.state.specs.Valid.{inLimits, countsInLimits, numbersRise, endsProper, tagsKnown, ownTags, setsCarried, unusedZero, validOf, stateOrder}
 use Rattle.state.specs.IsValid.{Usable}
+use Rattle.validity.specs.Lent.{least-below}
 use Rattle.state.specs.Judging.{invalid, by-state, short-first, invalid-first}
 use Rattle.outcome.specs.Outcome.{Outcome, decided, startOrder, started, startOf, noHeader, enableLater, enableOrder, gainOf, changed, enabling, enableOf, disableLater, disableOrder, disabling, disableOf, addLater, addOrder, adding, addOf, Call, ask, add, outcomeOf}
 use Rattle.outcome.specs.Refusals.{decided-number}
@@ -73,9 +73,8 @@ front-of-beyond more s h = ap (withTable s) (take-at (s .storage .flows) more 51
 -- the first 512 records are fewer than 512 exactly where the table has fewer
 front-short : (fs : List Flow) → ltb (length (take 512 fs)) 512 ≡ ltb (length fs) 512
 front-short fs =
-    by-cases (decLt (length fs) 512)
-    (λ l. lt-ltb (length (take 512 fs)) 512 (omega (arith, l, length-take 512 fs)) ∙ sym (lt-ltb (length fs) 512 l))
-    (λ l. le-ltb (length (take 512 fs)) 512 (omega (arith, l, length-take 512 fs)) ∙ sym (le-ltb (length fs) 512 (omega (arith, l))))
+    let e : length (take 512 fs) ≡ min (length fs) 512 = omega (arith, length-take 512 fs) in
+    ap (λ (k : ℕ). ltb k 512) e ∙ least-below (length fs) 512
 
 -- so refusal 9 goes by them
 pub size-fits-front : (n : ℕ) (lent : Storage) → badSize n (lentFront lent) ≡ badSize n lent

@@ -3,7 +3,7 @@ use mathlib.Core.Path.{_≡_, sym, ap, _∙_}
 use mathlib.Core.Bool.{false}
 use mathlib.Core.List.{List}
 use mathlib.Core.Logic.{by-cases}
-use Prim.Native.Nat.{ℕ, _≤_}
+use Prim.Native.Nat.{ℕ, _≤_, min}
 use native.Mathlib.Decide.{decLt}
 use native.Mathlib.Omega.{arith}
 use lib.Dec.{ltb}
@@ -14,14 +14,16 @@ use Rattle.model.specs.declared.Flow.{Flow}
 use Rattle.state.specs.State.{storageOf, shortOf, badSize}
 use Rattle.state.specs.IsValid.{sized, bad-size-short}
 
+-- the least of a number and b is below b exactly where the number is
+pub least-below : (a b : ℕ) → ltb (min a b) b ≡ ltb a b
+least-below a b =
+    by-cases (decLt a b) (λ l. lt-ltb (min a b) b (omega (arith, l)) ∙ sym (lt-ltb a b l))
+    (λ l. le-ltb (min a b) b (omega (arith, l)) ∙ sym (le-ltb a b (omega (arith, l))))
+
 module _ (m : ℕ) (flows : List Flow) (long : length flows ≡ 512) where
   -- it has fewer than 512 records exactly where m is below 512
   pub lent-few : ltb (length (take m flows)) 512 ≡ ltb m 512
-  lent-few =
-      let e = length-take m flows in
-      by-cases (decLt m 512)
-      (λ l. lt-ltb (length (take m flows)) 512 (omega (arith, e, l, long)) ∙ sym (lt-ltb m 512 l))
-      (λ l. le-ltb (length (take m flows)) 512 (omega (arith, e, l, long)) ∙ sym (le-ltb m 512 (omega (arith, l))))
+  lent-few = ap (λ (k : ℕ). ltb k 512) (length-take m flows ∙ ap (min m) long) ∙ least-below m 512
 
   -- where it has 512, it is the whole array
   pub lent-whole : 512 ≤ length (take m flows) → take m flows ≡ flows
