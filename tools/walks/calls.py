@@ -5,20 +5,29 @@ import straight as walks
 
 ROOT = "crates/tracker"
 walks.STRUCTS|={'question::Tags','state::Header','model::Flow','tagset::TagSet','calls::Answered','calls::Change','replay::Replayed','replay::Played'}
-F=['tyNamed',['pair','"model::Flow"','lnil']]; N=lambda q:['tyNamed',['pair','"%s"'%q,'lnil']]; U=['tyInt','64']; AR=['tyArray',F,['lenLit','512']]
+F=['tyNamed',['pair','"model::Flow"','lnil']]
+N=lambda q:['tyNamed',['pair','"%s"'%q,'lnil']]
+U=['tyInt','64']
+AR=['tyArray',F,['lenLit','512']]
 walks.FIELDS={'calls::Change':[(N('calls::Answered'),'answered'),(U,'first'),(U,'end'),(AR,'flows')],'replay::Played':[(N('replay::Replayed'),'replayed'),(U,'end'),(AR,'flows')]}
 t = sys.stdin.read()
 LOAD=dict(alias="load-it",cname='Load',facts=lambda a,r,f:[f'{r} ≡ loadedFrom {a[0]}'])
 STORE=dict(alias='store-it',cname='Store',facts=lambda a,r,f:[f'{f["flows"]} ≡ storedIn {a[1]} {a[2]} {a[3]} {a[0]}'])
-def core(facts): return dict(alias='core',cname='Core',facts=facts)
-def same(r,rows): return f'storedIn ({r} .first) ({r} .end) ({r} .flows) {rows} ≡ {r} .flows'
-def st(fs,tags='l-tags',pol='l-policies',cnt='l-counts'): return f'stateOf v-header {tags} {pol} {cnt} {fs}'
-FRONT='use Rattle.front.specs.Front.{%s}\n'; LENT='use Rattle.tracker.specs.Lent.{%s}\n'
-SL='use Rattle.flowslice.specs.Slice.{loadedFrom, storedIn}\n'; SL1='use Rattle.flowslice.specs.Slice.{loadedFrom}\n'
+def core(facts):
+    return dict(alias='core',cname='Core',facts=facts)
+def same(r,rows):
+    return f'storedIn ({r} .first) ({r} .end) ({r} .flows) {rows} ≡ {r} .flows'
+def st(fs,tags='l-tags',pol='l-policies',cnt='l-counts'):
+    return f'stateOf v-header {tags} {pol} {cnt} {fs}'
+FRONT='use Rattle.front.specs.Front.{%s}\n'
+LENT='use Rattle.tracker.specs.Lent.{%s}\n'
+SL='use Rattle.flowslice.specs.Slice.{loadedFrom, storedIn}\n'
+SL1='use Rattle.flowslice.specs.Slice.{loadedFrom}\n'
 def go(fn,names,corename,C,said,goal,uses,doc):
     cal={'flowslice::load':LOAD,'flowslice::store':STORE,corename:C}
     walks.gen(t,'tracker',fn,names,cal,said,f'{ROOT}/proofs/{fn}/Proof.antt',doc,dict(goal=goal,uses=uses))
-def doc(fn,how): return f'`tracker::{fn}` meets its contract: a walk of its MIR, by hand. {how} All that is known of the functions called is their\n-- contracts; specs/Lent.antt puts these together. Assumes nothing.'
+def doc(fn,how):
+    return f'`tracker::{fn}` meets its contract: a walk of its MIR, by hand. {how} All that is known of the functions called is their\n-- contracts; specs/Lent.antt puts these together. Assumes nothing.'
 LEND='The table is lent as a `&` to `load` and as a `&mut` to `store`, and comes back each time.'
 READ='The table goes to `load` at its own lifetime.'
 CALLED='same-outcome l-flows e0-load-it outcomeBeyond (λ (fs : List Flow). leftBy (r-core .answered) %s fs) (λ (fs : List Flow). %s) (λ more fs. refl) (λ fs. %s) (r-core .flows) (table-stored l-flows e0-load-it (r-core .first) (r-core .end) (r-core .flows) e1-core e0-store-it) e0-core'

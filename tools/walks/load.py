@@ -28,7 +28,8 @@ c.e('rewrite ! {_13} (λ (p : ℕ). ‵ (fat fullShare tyPtr l₁₃ 0 (vptr l�
 c.e(f'assigns ! (of-opd ! (load ! (from ! (stop !)) (look ! {{_10}} refl))) (from ! (hop ! (look ! {{_13}} refl) (stop !))) (store-raw ! {{cell}} refl ({TY} (elem i) _ g .0)) $').nl()
 c.drop('own').e('owned ! T.the-row (Is T.the-row) (LL.makes T.the-type T′.the-plain 𝓤 H A) (elem i) _ g $').head(0,['own']).move('cell','own','others').e('elem-put ! T.the-row fullShare (loadedTo ys i) i (elem i) (LL.vals T.the-type T′.the-laws (elem i)) l₃ 0 (in-array i small) $').head(3,['rA']).nl()
 c.e('assigns-last ! (bin ! (load ! (from ! (stop !)) (look ! {_4} refl)) (lit ! tt) (record { fits = next-fits i small })) (from ! (stop !)) (store ! {_4} refl (tt, record { fits = next-fits i small })) $').nl()
-for v in (7,8,9,10,11,12,13): c.e('forget ! {_%d} refl $'%v)
+for v in (7,8,9,10,11,12,13):
+    c.e('forget ! {_%d} refl $'%v)
 c.e('rewrite ! {_4} (λ (j : ℕ). ‵ (fat fullShare (tyInt w64) l₄ 0 (vint w64 j))) (one-more i) refl $').move(*PREFIX).e('by ! (k .prf)')
 MORE=close(c.text())
 c=Ctx(PREFIX)
@@ -242,7 +243,8 @@ module _ {{M : Type 1}} (𝓤 : URA M) (H : Heap 𝓤) (A : Atoms 𝓤) (W : Giv
         qed W ((‵ (flft κ q) ⊛ ‵ ftrue) ∷ ‵ (owns (ShrSlice (named 0) κ T.the-row ∷ []) (x, tt) at) ∷ []) ∵ enter ! (𝓣 .C) (𝓣 .Λ) code.function (s ∷ []) _ $
         {WALK}
 '''
-i=doc.rindex('  walk 𝓣 fm known =\n'); doc=doc[:i]+close(doc[i:].rstrip())+'\n'
+i=doc.rindex('  walk 𝓣 fm known =\n')
+doc=doc[:i]+close(doc[i:].rstrip())+'\n'
 doc+=f'''
 module _ {{M : Type 1}} (𝓤 : URA M) (H : Heap 𝓤) (A : Atoms 𝓤) (W : Given 𝓤 H A) (mem : Memory → SProp 𝓤) (run : Routine → Fun 𝓤) where
   load-walks : (𝓣 : Tables 𝓤 H) → Triple 𝓤 (𝓣 .C #flowslice·up-to) (UpTo 𝓤 H A mem run)

@@ -25,7 +25,8 @@ c.e('rewrite ! {_15} (λ (p : ℕ). ‵ (fat fullShare tyPtr l₁₅ 0 (vptr b p
 c.e(f'assigns ! (of-opd ! (load ! (from ! (stop !)) (look ! {{_13}} refl))) (from ! (hop ! (look ! {{_15}} refl) (stop !))) (store-raw ! {{cell}} refl ({TY} (elem j) _ g .0)) $').nl()
 c.drop('own').e('owned ! T.the-row (Is T.the-row) (LL.makes T.the-type T′.the-plain 𝓤 H A) (elem j) _ g $').head(0,['own']).move('cell','own','others').e('elem-put ! T.the-row fullShare (zs j) (first-place + j) (elem j) (LL.vals T.the-type T′.the-laws (elem j)) b o (in-table j small) $').head(3,['rF']).nl()
 c.e('assigns-last ! (bin ! (load ! (from ! (stop !)) (look ! {_7} refl)) (lit ! tt) (record { fits = next-fits j small })) (from ! (stop !)) (store ! {_7} refl (tt, record { fits = next-fits j small })) $').nl()
-for v in range(9,16): c.e('forget ! {_%d} refl $'%v)
+for v in range(9,16):
+    c.e('forget ! {_%d} refl $'%v)
 c.e('rewrite ! {_7} (λ (i : ℕ). ‵ (fat fullShare (tyInt w64) l₇ 0 (vint w64 i))) (one-more (first-place + j) ∙ sym (add-suc first-place j)) refl $').move(*PREFIX).e('by ! (k .prf)')
 MORE=close(c.text())
 c=Ctx(PREFIX)
@@ -258,7 +259,8 @@ module _ {{M : Type 1}} (𝓤 : URA M) (H : Heap 𝓤) (A : Atoms 𝓤) (W : Giv
         qed W ((‵ (flft κ q) ⊛ ‵ ftrue) ∷ ‵ (owns (MutSlice (named 0) κ T.the-row ∷ usize ∷ usize ∷ Row512 ∷ []) x vals) ∷ []) ∵ enter ! (𝓣 .C) (𝓣 .Λ) code.function (s ∷ vint w64 first-place ∷ vint w64 end-place ∷ rows-val ∷ []) _ $
         {WALK}
 '''
-i=doc.rindex('  walk 𝓣 fm known =\n'); doc=doc[:i]+close(doc[i:].rstrip())+'\n'
+i=doc.rindex('  walk 𝓣 fm known =\n')
+doc=doc[:i]+close(doc[i:].rstrip())+'\n'
 doc+=f'''
 module _ {{M : Type 1}} (𝓤 : URA M) (H : Heap 𝓤) (A : Atoms 𝓤) (W : Given 𝓤 H A) (mem : Memory → SProp 𝓤) (run : Routine → Fun 𝓤) where
   store-walks : (𝓣 : Tables 𝓤 H) → Triple 𝓤 (𝓣 .C #flowslice·up-to) (UpTo 𝓤 H A mem run)
