@@ -61,7 +61,11 @@ module _ (n : ℕ) (tags policies counts : List ℕ) (m : ℕ) (flows : List Flo
   unfolding startOf startOrder decided
   start-judged e t = rw (short e ∙ t) refl
 
-  -- any other leaves each container its own tag, zeros in the places of policy sets, and a table of zeros
+  -- in any other the table that was lent has 512 records
+  pub start-records : {b : Bool} → b ≡ shortOf n (length tags) (length policies) (length counts) m → b ≡ false → 512 ≤ length (take m flows)
+  start-records e f = sized n lent .0 (short e ∙ f) .records
+
+  -- and it leaves each container its own tag, zeros in the places of policy sets, and a table of zeros
   pub start-done : {b : Bool} → b ≡ shortOf n (length tags) (length policies) (length counts) m → b ≡ false
       → {tags' policies' counts' : List ℕ} → tags' ≡ withSets (min n (length tags / 4)) singleOf tags
       → policies' ≡ zeroFront (16 * n) policies → counts' ≡ zeroFront n counts

@@ -1,4 +1,5 @@
 pub mod Replies
+pub mod Places
 pub mod Unjudged
 pub mod UnjudgedLaws
 pub mod Judged

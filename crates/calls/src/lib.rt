@@ -8,12 +8,14 @@ use tagset::TagSet;
 use validity::Judgement;
 ghost use mathlib.Core.Path.{_≡_};
 ghost use mathlib.Core.List.{List};
-ghost use Prim.Native.Nat.{ℕ, _*_, _≤_};
-ghost use lib.ListN.{length, take};
+ghost use Prim.Native.Nat.{ℕ, _+_, _*_, _≤_};
+ghost use lib.ListN.{length, take, drop};
 ghost use Rattle.flowslice.specs.Slice.{storedIn};
+ghost use Rattle.flowtable.specs.FlowTable.{placeOf};
 ghost use Rattle.model.specs.declared.Flow.{Flow};
 ghost use Rattle.state.specs.State.{storageOf, stateOf};
 ghost use Rattle.calls.specs.Replies.{unchanged, leftBy};
+ghost use Rattle.calls.specs.Places.{placesBy};
 ghost use Rattle.outcome.specs.Outcome.{startOf, enableOf, disableOf, addOf};
 ghost use Rattle.calls.specs.Unjudged.{applyEnableOf, applyDisableOf, applyAddOf};
 
@@ -54,7 +56,8 @@ pub fn start(
     flows: [Flow; 512],
 ) -> Change
     ensures left { λ r. ⌜ leftBy (r .answered) (now (tags .exit)) (now (policies .exit)) (now (counts .exit)) (take lent (r .flows)) ≡ startOf n (storageOf (now (tags .entry)) (now (policies .entry)) (now (counts .entry)) (take lent flows)) ⌝ }
-    ensures stored { λ r. ⌜ storedIn (r .first) (r .end) (r .flows) flows ≡ r .flows ⌝ }
+    ensures stored { λ r. ⌜ (storedIn (r .first) (r .end) (r .flows) flows ≡ r .flows) × (drop lent (r .flows) ≡ drop lent flows) ⌝ }
+    ensures places { λ r. ⌜ (r .first, r .end) ≡ placesBy (r .answered) 0 512 ⌝ }
 {
     if validity::bad_size(n, tags.len(), policies.len(), counts.len(), lent) {
         return refused(Reply::BadSize, Header::NONE, flows);
@@ -88,7 +91,8 @@ pub fn enable(
     flow: Flow,
 ) -> Change
     ensures left { λ r. ⌜ leftBy (r .answered) (now (tags .exit)) (now (policies .entry)) (now (counts .entry)) (take lent (r .flows)) ≡ enableOf (stateOf header (now (tags .entry)) (now (policies .entry)) (now (counts .entry)) (take lent flows)) flow ⌝ }
-    ensures stored { λ r. ⌜ storedIn (r .first) (r .end) (r .flows) flows ≡ r .flows ⌝ }
+    ensures stored { λ r. ⌜ (storedIn (r .first) (r .end) (r .flows) flows ≡ r .flows) × (drop lent (r .flows) ≡ drop lent flows) ⌝ }
+    ensures places { λ r. ⌜ (r .first, r .end) ≡ placesBy (r .answered) (header .count) (header .count + 1) ⌝ }
 {
     match validity::judge(header, tags, policies, counts, lent, flows) {
         Judgement::BadSize => refused(Reply::BadSize, header, flows),
@@ -108,7 +112,8 @@ pub fn disable(
     number: u32,
 ) -> Change
     ensures left { λ r. ⌜ leftBy (r .answered) (now (tags .entry)) (now (policies .entry)) (now (counts .entry)) (take lent (r .flows)) ≡ disableOf (stateOf header (now (tags .entry)) (now (policies .entry)) (now (counts .entry)) (take lent flows)) number ⌝ }
-    ensures stored { λ r. ⌜ storedIn (r .first) (r .end) (r .flows) flows ≡ r .flows ⌝ }
+    ensures stored { λ r. ⌜ (storedIn (r .first) (r .end) (r .flows) flows ≡ r .flows) × (drop lent (r .flows) ≡ drop lent flows) ⌝ }
+    ensures places { λ r. ⌜ (r .first, r .end) ≡ placesBy (r .answered) (placeOf number (take (header .count) flows)) (header .count) ⌝ }
 {
     match validity::judge(header, tags, policies, counts, lent, flows) {
         Judgement::BadSize => refused(Reply::BadSize, header, flows),
@@ -147,6 +152,7 @@ pub fn add_policy(
 pub fn apply_enable(header: Header, tags: &mut [u64], flows: [Flow; 512], flow: Flow) -> Change
     ensures left { λ r. ⌜ ((policies counts : List ℕ) → leftBy (r .answered) (now (tags .exit)) policies counts (r .flows) ≡ applyEnableOf (stateOf header (now (tags .entry)) policies counts flows) flow) ⌝ }
     ensures stored { λ r. ⌜ storedIn (r .first) (r .end) (r .flows) flows ≡ r .flows ⌝ }
+    ensures places { λ r. ⌜ (r .first, r .end) ≡ placesBy (r .answered) (header .count) (header .count + 1) ⌝ }
 {
     if header.containers <= flow.from {
         return refused(Reply::NoSuchContainer, header, flows);
@@ -188,6 +194,7 @@ pub fn apply_enable(header: Header, tags: &mut [u64], flows: [Flow; 512], flow: 
 pub fn apply_disable(header: Header, flows: [Flow; 512], number: u32) -> Change
     ensures left { λ r. ⌜ ((tags policies counts : List ℕ) → leftBy (r .answered) tags policies counts (r .flows) ≡ applyDisableOf (stateOf header tags policies counts flows) number) ⌝ }
     ensures stored { λ r. ⌜ storedIn (r .first) (r .end) (r .flows) flows ≡ r .flows ⌝ }
+    ensures places { λ r. ⌜ (r .first, r .end) ≡ placesBy (r .answered) (placeOf number (take (header .count) flows)) (header .count) ⌝ }
 {
     let used = header.count;
     let found = flowtable::find(flows, used, number);

@@ -253,9 +253,9 @@ removed-behind place count table i l g =
 
 -- so where a record of 512 is removed, storing the records in use from its place on is enough
 pub stored-removed : (place count : ℕ) (table : List Flow) → length table ≡ 512
-    → storedIn place (min count 512) (removedAt place count table) table ≡ removedAt place count table
+    → storedIn place count (removedAt place count table) table ≡ removedAt place count table
 stored-removed place count table t =
-    stored-is place (min count 512) (removedAt place count table) table (removedAt place count table) (removed-length place count table) (λ i l a b c. refl)
+    stored-is place count (removedAt place count table) table (removedAt place count table) (removed-length place count table) (λ i l a b c. refl)
     (λ i l n. by-cases (decLt i place) (λ h. sym (removed-before place count table i h))
-    (λ h. by-cases (decLt i count) (λ g. absurd (n (omega (arith, h)) (omega (arith, g, l, t)) (omega (arith, l, t))))
+    (λ h. by-cases (decLt i count) (λ g. absurd (n (omega (arith, h)) g (omega (arith, l, t))))
     (λ g. sym (removed-behind place count table i (omega (arith, g)) l))))

@@ -1,11 +1,14 @@
 -- A flow that is not found is refused; one that is found is removed from its place. Assumes nothing.
-use mathlib.Core.Path.{_≡_, refl, sym, _∙_}
+use mathlib.Core.Path.{_≡_, refl, sym, ap, _∙_}
 use mathlib.Core.List.{List, []}
 use Prim.Native.Nat.{ℕ}
-use lib.ListN.{length}
+use native.Mathlib.Omega.{arith}
+use lib.ListN.{length, take}
 use borrow.Author.Needs.{needs}
 use Rattle.state.specs.State.{State, stateOf, flowsOf}
-use Rattle.calls.specs.Stored.{refused-stored, disable-stored}
+use Rattle.flowtable.specs.FlowTable.{placeOf}
+use Rattle.flowtable.specs.Laws.{found-place}
+use Rattle.calls.specs.Stored.{refused-stored, refused-places, accepted-places, disable-stored}
 use Rattle.calls.specs.UnjudgedBranches.{left-refused, not-enabled, some-enabled, disables}
 use Rattle.calls.proofs.apply_disable.Statement.{statement}
 use Rattle.calls.proofs.apply_disable.Tie as tie
@@ -38,7 +41,10 @@ returns c =
       λ tags policies counts.
           left-refused (at x tags policies counts) (λ fs. fs) refl (c .refused .ensures)
           (not-enabled (at x tags policies counts) (x .args .number) (sym (c .before .enum-told .given .1) ∙ f .find .ensures)),
-      refused-stored (x .args .flows) (c .refused .ensures),
+      (
+        refused-stored (x .args .flows) (c .refused .ensures),
+        refused-places (placeOf (x .args .number) (take (x .args .header .count) (x .args .flows))) (x .args .header .count) (c .refused .ensures) (λ z. omega (arith, z)),
+      ),
     )
 
 sub-count : tie.Need-sub-count
@@ -61,10 +67,14 @@ returns-2 : tie.Need-returns-2
 unfolding flowsOf
 returns-2 c =
     let f = c .before .before .before .before in
-    let x = f .before in (
-      λ tags policies counts.
-          disables (at x tags policies counts) (x .args .number) (long x) (sym (c .before .before .found .given .1) ∙ f .find .ensures) (c .remove .ensures),
-      disable-stored (x .args .flows) (long x) _ (x .args .header .count) (c .remove .ensures),
+    let x = f .before in
+    let told = sym (c .before .before .found .given .1) ∙ f .find .ensures in (
+      λ tags policies counts. disables (at x tags policies counts) (x .args .number) (long x) told (c .remove .ensures),
+      (
+        disable-stored (x .args .flows) (long x) _ (x .args .header .count) (c .remove .ensures),
+        ap (λ (p : ℕ). (p, x .args .header .count)) (found-place (x .args .number) (take (x .args .header .count) (x .args .flows)) told .1)
+            ∙ accepted-places 0 _ (placeOf (x .args .number) (take (x .args .header .count) (x .args .flows))) (x .args .header .count),
+      ),
     )
 
 pub apply-disable-spec : {M : Type 1} → statement M

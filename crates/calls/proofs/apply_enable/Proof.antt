@@ -1,12 +1,12 @@
 -- Each test decides as the order's does; past them the table, the sets and the gain are those of the callees' contracts. Assumes nothing.
 use mathlib.Core.Path.{_≡_, refl}
 use mathlib.Core.List.{List}
-use Prim.Native.Nat.{ℕ}
+use Prim.Native.Nat.{ℕ, _+_}
 use native.Mathlib.Omega.{arith}
 use lib.ListN.{length}
 use borrow.Author.Needs.{needs}
 use Rattle.state.specs.State.{State, stateOf}
-use Rattle.calls.specs.Stored.{refused-stored, enable-stored}
+use Rattle.calls.specs.Stored.{refused-stored, refused-places, accepted-places, enable-stored}
 use Rattle.calls.specs.UnjudgedBranches.{left-refused, no-from, no-to, self-flow, stale, full, enables}
 use Rattle.calls.proofs.apply_enable.Statement.{statement}
 use Rattle.calls.proofs.apply_enable.Tie as tie
@@ -26,7 +26,10 @@ returns : tie.Need-returns
 returns c =
     let x = c .before .before .before .before .before in (
       λ policies counts. left-refused (at x policies counts) (λ fs. fs) refl (c .refused .ensures) (no-from (at x policies counts) (x .args .flow) (omega arith)),
-      refused-stored (x .args .flows) (c .refused .ensures),
+      (
+        refused-stored (x .args .flows) (c .refused .ensures),
+        refused-places (x .args .header .count) (x .args .header .count + 1) (c .refused .ensures) (λ z. omega (arith, z)),
+      ),
     )
 
 refused-requires-2 : tie.Need-refused-requires-2
@@ -37,7 +40,10 @@ returns-2 c =
     let e1 = c .before .before .before .before in
     let x = e1 .before .before .before .before in (
       λ policies counts. left-refused (at x policies counts) (λ fs. fs) refl (c .refused2 .ensures) (no-to (at x policies counts) (x .args .flow) (e1 .if1 .left) (omega arith)),
-      refused-stored (x .args .flows) (c .refused2 .ensures),
+      (
+        refused-stored (x .args .flows) (c .refused2 .ensures),
+        refused-places (x .args .header .count) (x .args .header .count + 1) (c .refused2 .ensures) (λ z. omega (arith, z)),
+      ),
     )
 
 refused-requires-3 : tie.Need-refused-requires-3
@@ -49,7 +55,10 @@ returns-3 c =
     let e1 = e2 .before .before .before in
     let x = e1 .before .before .before .before in (
       λ policies counts. left-refused (at x policies counts) (λ fs. fs) refl (c .refused3 .ensures) (self-flow (at x policies counts) (x .args .flow) (e1 .if1 .left) (e2 .if2 .left) (c .before .if3 .taken)),
-      refused-stored (x .args .flows) (c .refused3 .ensures),
+      (
+        refused-stored (x .args .flows) (c .refused3 .ensures),
+        refused-places (x .args .header .count) (x .args .header .count + 1) (c .refused3 .ensures) (λ z. omega (arith, z)),
+      ),
     )
 
 refused-requires-4 : tie.Need-refused-requires-4
@@ -62,7 +71,10 @@ returns-4 c =
     let e1 = e2 .before .before .before in
     let x = e1 .before .before .before .before in (
       λ policies counts. left-refused (at x policies counts) (λ fs. fs) refl (c .refused4 .ensures) (stale (at x policies counts) (x .args .flow) (e1 .if1 .left) (e2 .if2 .left) (e3 .if3 .left) (omega arith)),
-      refused-stored (x .args .flows) (c .refused4 .ensures),
+      (
+        refused-stored (x .args .flows) (c .refused4 .ensures),
+        refused-places (x .args .header .count) (x .args .header .count + 1) (c .refused4 .ensures) (λ z. omega (arith, z)),
+      ),
     )
 
 refused-requires-5 : tie.Need-refused-requires-5
@@ -76,7 +88,10 @@ returns-5 c =
     let e1 = e2 .before .before .before in
     let x = e1 .before .before .before .before in (
       λ policies counts. left-refused (at x policies counts) (λ fs. fs) refl (c .refused5 .ensures) (full (at x policies counts) (x .args .flow) (e1 .if1 .left) (e2 .if2 .left) (e3 .if3 .left) (e4 .if4 .left) (omega arith)),
-      refused-stored (x .args .flows) (c .refused5 .ensures),
+      (
+        refused-stored (x .args .flows) (c .refused5 .ensures),
+        refused-places (x .args .header .count) (x .args .header .count + 1) (c .refused5 .ensures) (λ z. omega (arith, z)),
+      ),
     )
 
 add-count : tie.Need-add-count
@@ -108,7 +123,10 @@ returns-6 c =
     let made = c .before .before .propagate .ensures in
     let table = c .before .before .before .before .append .ensures in (
       λ policies counts. enables (at x policies counts) (x .args .flow) (e1 .if1 .left) (e2 .if2 .left) (e3 .if3 .left) (e4 .if4 .left) (e5 .if5 .left) table (made .0) (made .1 .1),
-      enable-stored (x .args .flows) (long x) (x .args .header .count) (x .args .flow) table,
+      (
+        enable-stored (x .args .flows) (long x) (x .args .header .count) (x .args .flow) table,
+        accepted-places _ _ (x .args .header .count) (x .args .header .count + 1),
+      ),
     )
 
 pub apply-enable-spec : {M : Type 1} → statement M

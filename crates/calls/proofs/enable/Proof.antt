@@ -1,6 +1,8 @@
 -- What is judged decides between 9, 12 and `apply_enable`, which on a usable state has the same outcome. Assumes nothing.
 use mathlib.Core.Path.{_≡_, refl, sym, ap, _∙_}
 use mathlib.Core.List.{List}
+use Prim.Native.Nat.{_+_}
+use native.Mathlib.Omega.{arith}
 use lib.ListN.{length, take}
 use borrow.Author.Needs.{needs}
 use Rattle.model.specs.declared.Flow.{Flow}
@@ -10,7 +12,7 @@ use Rattle.validity.specs.Judge.{judgementOf}
 use Rattle.calls.specs.Unjudged.{applyEnableOf}
 use Rattle.calls.specs.UnjudgedLaws.{apply-enable}
 use Rattle.calls.specs.Judged.{enable-judged}
-use Rattle.calls.specs.Stored.{refused-stored, left-lent}
+use Rattle.calls.specs.Stored.{refused-stored, refused-behind, refused-places, none-behind, left-lent}
 use Rattle.calls.specs.UnjudgedBranches.{left-refused}
 use Rattle.calls.proofs.enable.Statement.{statement}
 use Rattle.calls.proofs.enable.Tie as tie
@@ -57,7 +59,10 @@ returns c =
     let x = j .before .before .before .before .before in (
       left-refused (at x) (take (x .args .lent)) refl (c .refused .ensures)
           (enable-judged (at x) (x .args .flow) 8 (sym (j .judge .ensures) ∙ ap judgementOf (c .before .enum-told .given .1))),
-      refused-stored (x .args .flows) (c .refused .ensures),
+      (
+        (refused-stored (x .args .flows) (c .refused .ensures), refused-behind (x .args .lent) (x .args .flows) (c .refused .ensures)),
+        refused-places (x .args .header .count) (x .args .header .count + 1) (c .refused .ensures) (λ z. omega (arith, z)),
+      ),
     )
 
 same-length-2 : tie.Need-same-length-2
@@ -69,7 +74,10 @@ returns-2 c =
     let x = j .before .before .before .before .before in (
       left-refused (at x) (take (x .args .lent)) refl (c .refused2 .ensures)
           (enable-judged (at x) (x .args .flow) 11 (sym (j .judge .ensures) ∙ ap judgementOf (c .before .enum-told2 .given .1))),
-      refused-stored (x .args .flows) (c .refused2 .ensures),
+      (
+        (refused-stored (x .args .flows) (c .refused2 .ensures), refused-behind (x .args .lent) (x .args .flows) (c .refused2 .ensures)),
+        refused-places (x .args .header .count) (x .args .header .count + 1) (c .refused2 .ensures) (λ z. omega (arith, z)),
+      ),
     )
 
 same-length-3 : tie.Need-same-length-3
@@ -83,9 +91,15 @@ returns-3 c =
     let u = judged-usable (at x) (sym (j .judge .ensures) ∙ ap judgementOf told) in
     let done = c .before .before .apply-enable in (
       left-lent (x .args .flows) (long x) (x .args .lent) (done .result) (λ fs. applyEnableOf (with x fs) (x .args .flow)) (u .sized .records)
-          (done .ensures .0 (x .args .policies .now) (x .args .counts .now)) (done .ensures .1)
+          (done .ensures .0 (x .args .policies .now) (x .args .counts .now)) (done .ensures .1 .0)
           ∙ apply-enable (at x) u (x .args .flow) (λ k. j .before .before .before .before .slice-known .given k .fits),
-      done .ensures .1,
+      (
+        (
+          done .ensures .1 .0,
+          none-behind (x .args .flows) (long x) (x .args .lent) (done .result .first) (done .result .end) (u .sized .records) (done .ensures .1 .0),
+        ),
+        done .ensures .1 .1,
+      ),
     )
 
 pub enable-spec : {M : Type 1} → statement M

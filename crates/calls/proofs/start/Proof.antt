@@ -1,11 +1,12 @@
 -- A bad size is refused; otherwise each list is written as its callee's contract says. Assumes nothing.
 use mathlib.Core.Path.{_≡_, refl}
+use native.Mathlib.Omega.{arith}
 use lib.ListN.{length, take}
 use borrow.Author.Needs.{needs}
 use Rattle.state.specs.State.{stateOf}
 use Rattle.outcome.specs.Outcome.{noHeader}
-use Rattle.calls.specs.Judged.{start-judged, start-done}
-use Rattle.calls.specs.Stored.{refused-stored, start-stored}
+use Rattle.calls.specs.Judged.{start-judged, start-records, start-done}
+use Rattle.calls.specs.Stored.{refused-stored, refused-behind, refused-places, accepted-places, none-behind, start-stored}
 use Rattle.calls.specs.UnjudgedBranches.{left-refused}
 use Rattle.calls.proofs.start.Statement.{statement}
 use Rattle.calls.proofs.start.Tie as tie
@@ -26,7 +27,10 @@ returns c =
     let a = x .args in (
       left-refused (stateOf noHeader (a .tags .now) (a .policies .now) (a .counts .now) (take (a .lent) (a .flows))) (take (a .lent)) refl (c .refused .ensures)
           (start-judged (a .n) (a .tags .now) (a .policies .now) (a .counts .now) (a .lent) (a .flows) (long x) (c .before .before .bad-size .ensures) (c .before .if1 .taken)),
-      refused-stored (a .flows) (c .refused .ensures),
+      (
+        (refused-stored (a .flows) (c .refused .ensures), refused-behind (a .lent) (a .flows) (c .refused .ensures)),
+        refused-places 0 512 (c .refused .ensures) (λ z. omega (arith, z)),
+      ),
     )
 
 store-own-tags-requires : tie.Need-store-own-tags-requires
@@ -57,10 +61,15 @@ returns-2 c =
     let own = words .before .before .before .before in
     let e1 = own .before .before in
     let x = e1 .before .before .before .before .before in
-    let a = x .args in (
+    let a = x .args in
+    let all = start-stored (a .flows) (long x) in
+    let enough = start-records (a .n) (a .tags .now) (a .policies .now) (a .counts .now) (a .lent) (a .flows) (long x) (e1 .before .bad-size .ensures) (e1 .if1 .left) in (
       start-done (a .n) (a .tags .now) (a .policies .now) (a .counts .now) (a .lent) (a .flows) (long x) (e1 .before .bad-size .ensures) (e1 .if1 .left)
           (own .store-own-tags .ensures) (words .clear-words .ensures) (bytes .clear-bytes .ensures),
-      start-stored (a .flows) (long x),
+      (
+        (all, none-behind (a .flows) (long x) (a .lent) 0 512 enough all),
+        accepted-places 0 _ 0 512,
+      ),
     )
 
 pub start-spec : {M : Type 1} → statement M

@@ -74,7 +74,7 @@ module _ (c : tie.After-replay) where
   long : length (c .replay .result .flows) ≤ 512
   long =
       let e = stored-length 0 (c .replay .result .end) (c .replay .result .flows) (replicate 512 noFlow) in
-      omega (arith, e, ap length (c .replay .ensures .1), length-replicate {A = Flow} 512 noFlow)
+      omega (arith, e, ap length (c .replay .ensures .1 .0 .0), length-replicate {A = Flow} 512 noFlow)
 
   -- so the run is that on the whole table
   run : replayBy made tags (c .replay .last .1 .1 .0) (c .replay .last .1 .1 .1 .0) (c .replay .result .flows) ≡ replayOf (start .args .bytes .now) (lent start)
