@@ -1,12 +1,10 @@
 // Replays and texts in the script's tracker. Each gives back what the run left.
 use leb128::Encoded;
-use model::Flow;
 use replay::Containers;
 use replay::Ending;
 use report::Tallied;
 use samplecalls::Now;
 use samplecalls::changes::header_text;
-use samplecalls::changes::told;
 use sampleline::Numbers;
 use sampleline::print::named;
 use sampleline::print::refused;
@@ -54,32 +52,6 @@ pub fn replay_log(
         flows: flows,
         length: length,
     }
-}
-
-// `lent K F T B..`: a log replayed and a flow enabled after it by the public calls, on a lent table of other content. The script's header and table stay.
-pub fn lent(
-    a: Numbers,
-    s: &[u8],
-    now: Now,
-    tags: &mut [u64],
-    policies: &mut [u64],
-    counts: &mut [u8],
-) -> Now {
-    let content = Flow {
-        number: 7,
-        from: 8,
-        to: 9,
-    };
-    let flow = Flow {
-        number: a.small(0),
-        from: a.small(1),
-        to: a.small(2),
-    };
-    let answered = samplelent::go_on(s, tags, policies, counts, content, flow);
-    let flows = now.flows;
-    let after = told(answered, flows, now.length);
-    header_text(b", n ", after.header);
-    now
 }
 
 // Why a replay ended, and at which byte.

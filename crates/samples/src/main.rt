@@ -182,7 +182,7 @@ fn change(
         Command::Flow => pokes::flow(a, now),
         Command::Header => pokes::header(a, now),
         Command::Replay => runs::replay_log(s, now, tags, policies, counts),
-        Command::Lent => runs::lent(a, s, now, tags, policies, counts),
+        Command::Lent => samplelent::lent(a, s, now, tags, policies, counts),
         Command::Tally => runs::tally(s, now.length, tags, policies, counts),
         Command::Short => runs::short(a, s, now.length, tags, policies, counts),
         Command::Large => large::large(a, now, tags, policies, counts),
