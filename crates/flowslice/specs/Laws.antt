@@ -1,6 +1,6 @@
 -- What is loaded from a lent flow table, and what the table is after a store: record by record, and as a whole. Assumes nothing.
 use mathlib.Core.Path.{_≡_, refl, sym, ap, _∙_}
-use mathlib.Core.Bool.{true, false, _&&_, cond, false≢true}
+use mathlib.Core.Bool.{true, _&&_, cond, false≢true}
 use mathlib.Core.Logic.{by-cases}
 use mathlib.Core.List.{List, _++_}
 use Prim.Native.Nat.{ℕ, _+_, _-_, _≤_, _<_}

@@ -111,6 +111,13 @@ fn placed(place: usize) -> Command {
         15 => Command::Lent,
         16 => Command::List,
         17 => Command::Log,
+        _ => placed_behind(place),
+    }
+}
+
+// The same from the 18th place on.
+fn placed_behind(place: usize) -> Command {
+    match place {
         18 => Command::Now,
         19 => Command::Number,
         20 => Command::Over,
