@@ -587,8 +587,13 @@ def gen(t,crate,fn,names,cal,said,out,doc,extra):
     typs=' ∷ '.join((f'{"MutSlice" if T.slice=="mut" else "ShrSlice"} (named {T.lft}) κ-{n} {T.elem.row}' if T.kind=='slice' else T.row) for n,T,i in P)+' ∷ []'
     vs=' ∷ '.join(one(n,T) for n,T,i in P)+' ∷ []'
     toks=' ⊛ '.join(f'‵ (flft κ-{n} q-{n})' for n,T,i in sorted(S,key=lambda s:s[1].lft))+' ⊛ ‵ ftrue'
-    uses=''.join(f'use Rattle.{cc}.specs.declared.{nn}.{{{nn}}}\nuse Rattle.{cc}.proofs.{nn} as {nn}-T\nuse Rattle.{cc}.proofs.{nn}.Laws as {nn}-L\n' for cc,nn in sorted(USED))
-    cuses=''.join(f'use Rattle.{nm.split("::")[0]}.proofs.{nm.split("::")[1]} as {al}\nuse Rattle.{nm.split("::")[0]}.proofs.{nm.split("::")[1]}.Symbol as {al}-def\nuse Rattle.{nm.split("::")[0]}.proofs.{nm.split("::")[1]}.Symbol.{{name as #{nm.replace("::","·").replace("_","-")}}}\nuse Rattle.{nm.split("::")[0]}.proofs.{nm.split("::")[1]}.Met as {al}-thm\n' for nm,al,C in calls)
+    def facade(cc,part):   # another crate's files are reached through its facade, the own ones are not
+        return f'Rattle.{cc}.{part}' if cc==crate else f'Rattle.{cc}.{part}'
+    uses=''.join(f'use {facade(cc,"specs")}.declared.{nn}.{{{nn}}}\nuse {facade(cc,"proofs")}.{nn} as {nn}-T\nuse {facade(cc,"proofs")}.{nn}.Laws as {nn}-L\n' for cc,nn in sorted(USED))
+    def module(nm):   # where what is proved of a callee stands
+        c0,f0=nm.split("::")
+        return f'{facade(c0,"proofs")}.{f0}'
+    cuses=''.join(f'use {module(nm)} as {al}\nuse {module(nm)}.Symbol as {al}-def\nuse {module(nm)}.Symbol.{{name as #{nm.replace("::","·").replace("_","-")}}}\nuse {module(nm)}.Met as {al}-thm\n' for nm,al,C in calls)
     contracts=''.join(f'''abbrev {C["cname"]} : {{M : Type 1}} (𝓤 : URA M) (H : Heap 𝓤) (A : Atoms 𝓤) (mem : Memory → SProp 𝓤) (run : Routine → Fun 𝓤) → Contract 𝓤
 {C["cname"]} 𝓤 H A mem run = tripleOf 𝓤 H A {al}.signature ({al}.spec 𝓤 H A mem run)
 

@@ -1,5 +1,6 @@
 // A flow of data from one container to another. What is true of containers, flows and executions stands in specs/.
 
+#[repr(C)]
 pub struct Flow {
     pub number: u32,
     pub from: u32,

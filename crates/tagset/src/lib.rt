@@ -3,6 +3,7 @@ ghost use mathlib.Core.Path.{_≡_};
 ghost use Prim.Native.Nat.{_-_};
 ghost use Rattle.tagset.specs.Set.{has, emptySet, singleOf, lowOnes, belowOf, unionOf, intersectionOf, subsetOf, sameOf, exceedsOf, sizeOf};
 
+#[repr(C)]
 pub struct TagSet {
     pub words: [u64; 4],
 }

@@ -1,0 +1,28 @@
+-- `foreign::number_answer` meets its contract, case by case: each number is the one that the definition gives. Assumes nothing.
+use mathlib.Core.Path.{sym, ap}
+use Rattle.leb128.specs.Answer.{readingOf}
+use borrow.Author.Needs.{needs}
+use Rattle.foreign.proofs.number_answer.Statement.{statement}
+use Rattle.foreign.proofs.number_answer.Tie as tie
+
+enum-known-answered : tie.Need-enum-known-answered
+enum-known-answered c = search needs
+
+enum-told : tie.Need-enum-told
+enum-told c = search needs
+
+enum-told-2 : tie.Need-enum-told-2
+enum-told-2 c = search needs
+
+returns : tie.Need-returns
+returns c = sym (ap readingOf (c .before .answered .given .1))
+
+returns-2 : tie.Need-returns-2
+returns-2 c = sym (ap readingOf (c .enum-told .given .1))
+
+returns-3 : tie.Need-returns-3
+returns-3 c = sym (ap readingOf (c .enum-told2 .given .1))
+
+pub number-answer-spec : {M : Type 1} → statement M
+number-answer-spec =
+    tie.close (tie.spec enum-known-answered enum-told enum-told-2 returns returns-2 returns-3)
