@@ -1,5 +1,264 @@
 -- THE CLAIMS: what is true of the definitions that the running calls equal, each with the demand that it answers; then of the calls, one by one.
--- Definitions, words and laws are cited where they stand; the index of both is below the imports. Assumes nothing.
+-- First the index, from each demand and each sentence of document 01 to what fixes it; where the definitions and the words of the claims stand is listed
+-- below the imports. Assumes nothing.
+--
+-- THE INDEX. A name by itself is a theorem of this file (history and tracker are its abbreviations). A name in backquotes is a definition, a row of a table,
+-- a law, a sample or a function with its contract, and stands in the file behind it, below crates/. A sentence that no theorem fixes says so.
+--
+-- DEMAND 1: any input gets the work, or the refusal that comes first in the paper's order; what is refused changes nothing
+--   the number, by the table: start-answers-by-the-table, enable-answers-by-the-table, disable-answers-by-the-table, add-answers-by-the-table,
+--     set-answers-by-the-table, size-answers-by-the-table, permission-answers-by-the-table, rank-answers-by-the-table, n-answers-by-the-table,
+--     reading-answers-by-the-table, reading-n-answers-by-the-table, reading-answers-no-other-refusal, writing-answers-10-exactly-if-it-does-not-fit
+--   the first in the order: start-answers-the-first, call-answers-the-first
+--   the work: start-makes-it-new, enable-puts-the-flow-last, disable-takes-the-flow-out, add-puts-the-set-last, a-question-tells, rank-writes-the-ranking,
+--     replay-is-starting-and-calls, a-text-that-fits-is-written
+--   refused: refused-start-changes-nothing, refused-call-changes-nothing, a-refused-question-tells-nothing, refused-rank-changes-nothing,
+--     a-refused-n-changes-nothing, a-short-output-keeps-its-bytes
+--   of the calls that run: what-start-does, what-enable-does, what-disable-does, what-add-policy-does, what-replay-does, what-tally-does
+--   after a list of calls no state is refused: no-call-answers-9-or-12, every-question-is-answered, no-other-container-is-told,
+--     the-ranking-is-written; of calls that run: called-answers-no-9-or-12, called-every-question-is-answered, called-no-other-container-is-told,
+--     called-the-ranking-is-written
+-- DEMAND 2: the tag sets are those of Flows (document 000); a log that is written is read back, and what is accepted is what we write
+--   the sets: sets-are-flows, called-sets-are-flows, called-tags-are-flows, the-tags-printed-are-flows
+--   Flows has none too few and none too many (Propositions 1 and 2): no-flow-is-missed, no-flow-is-invented
+--   the log: a-written-record-is-read-back, an-accepted-record-is-what-we-write, a-written-log-is-read-back, a-log-is-read-back,
+--     an-accepted-log-is-what-we-write
+-- DEMAND 3: the runs of the accepted history, compared with the book: demand-3; of calls that run called-demand-3
+--
+-- THE FIRST LINES
+-- 'The model is that of source document 000', 'Document 000 decides what a tag set holds': `Enabled*`, `Flows`, `Execution` (model/specs/Model.antt);
+--   no-flow-is-missed, no-flow-is-invented
+-- 'The permission rule is from source document 001': legal-rule
+-- 'This paper decides event numbers, limits and the log': no statement on the product; what it decides is below
+--
+-- WORDS
+-- 'A holder is anything that holds DNA readings or data': no statement on the product, for which a holder is a number below n
+-- 'A book has n holders, n from 1 to 256, numbered from 0': size-is-judged, every-question-is-answered, no-other-container-is-told
+-- 'Each holder's tag is its own number': start-makes-it-new, flows-of-no-event
+-- 'A channel (flow) goes from one holder to another and has a number from 1 to 4,294,967,295': enable-joins-exactly-if, greatest-is-greatest (from 1);
+--   `Flow` (model/src/lib.rt), whose number has 32 bits; `kinds` (eventlog/specs/Log.antt), 32 bits in the log
+-- 'An event opens or closes a channel': a-call-is-an-enable, a-call-is-a-disable; `Event` (model/specs/Model.antt)
+-- 'A passage (exec) is a real copy; the book never sees it': `Execution` (model/specs/Model.antt); `Call` (outcome/specs/Outcome.antt) has none
+-- 'The table of a book or of a run is the tag sets of all holders': `configurationOf` (outcome/specs/Outcome.antt), `configuration` (model/specs/Model.antt)
+-- 'All numbers here are decimal, and bytes are given in decimal too': no statement on the product
+-- 'Part of this product: the book, the log reader and writer, the permission question, the ranking, a program called `tally`': `start`, `enable`, `disable`,
+--   `add_policy`, `is_legal`, `rank`, `replay` (tracker/src/lib.rt), `read_record`, `write_record` (eventlog/src/lib.rt), `main` (tally/src/main.rt)
+-- 'Not part of it: stopping a job, hooks in an operating system, user names, networks': there is no such function, and no theorem
+--
+-- TAG SETS
+-- 'A tag set is a record of four 64-bit words; tag t is bit t mod 64 of word t div 64, bit 0 the lowest': tag-is-a-bit, start-keeps-64-bits,
+--   call-keeps-64-bits; `TagSet` (tagset/src/lib.rt), `has` (tagset/specs/Set.antt)
+-- 'The size of a tag set is the number of ones in its words': size-is-the-number-of-ones
+-- 'At the start each holder has its own tag alone': start-makes-it-new
+--
+-- WHAT EVENTS DO
+-- 'After each event, holder b has tag t exactly if some holder a had t before the event and b can be reached from a by zero or more channels open after
+--   the event': sets-after-an-enable, sets-after-a-disable, the-closure-is-the-sentence; over a list of calls sets-are-flows, called-sets-are-flows
+-- 'This is Flows followed by the reflexive and transitive closure of Enabled': flows-of-one-event-more, enabled-is-a-flow, closure-is-computed
+-- 'For the empty history, which document 000 leaves out, it is the start': flows-of-no-event, flows-of-one-event
+-- 'Passage a to b adds a's tags to b's': an-exec-adds-tags
+-- 'A run for a history is that history with any finite number of passages merged into it, each through a channel open at its place': `Execution`
+--   (model/specs/Model.antt)
+-- 'The run's table comes from the start by these steps in order; openings and closings change no set in it': an-event-changes-no-set; `initial`,
+--   `configuration` (model/specs/Model.antt)
+-- 'A closing names only the channel number': `Event` (model/specs/Model.antt), `fieldsOf` (eventlog/specs/Answer.antt), `disable` (tracker/src/lib.rt)
+-- 'It takes no tag away': disable-changes-no-set, disable-has-nothing-to-propagate
+-- 'Two channels may have the same ends': enable-joins-exactly-if, enable-answers-by-the-table (no row asks for other ends than before)
+-- 'Closing one leaves the other open': disable-takes-the-flow-out, enabled-is-standing; `alike-flow-stays` (model/specs/Bench.antt)
+-- 'An opening's number is greater than that of every opening accepted before in this book': greatest-is-greatest, each-event-joined,
+--   enable-answers-by-the-table, enable-puts-the-flow-last
+-- 'A refused opening uses up no number': refused-call-changes-nothing, an-event-that-does-not-changes-nothing
+-- 'The gain of an event is a number in its answer: the count of (tag, holder) pairs present after it and not before': gain-is-counted,
+--   enable-gains-what-sets-grow-by, pairs-counted-are-the-gain; `gainOf`, `Answer` (outcome/specs/Outcome.antt)
+-- 'A closing gains 0': disable-gains-nothing
+-- 'The spread stops at the first full pass over the open channels that adds no tag': there-is-a-pass, every-pass-before-the-last-adds,
+--   the-last-pass-adds-nothing, a-pass-adds-exactly-if, the-number-of-passes; that this gives the sets and the gain of the sentences above:
+--   passes-come-to-the-closure, pairs-counted-are-the-gain
+-- 'Within one pass each channel reads the sets as the pass found them': a-pass-reads-the-sets-found
+--
+-- LISTS OF CALLS
+-- 'A list of calls is any finite number of openings and closings, with any arguments, on one book that an accepted starting with n holders has just left':
+--   tracker, tracker-follows; `Call`, `after` (outcome/specs/Outcome.antt); of calls that run `Called` (claims/specs/Running.antt), called-follows,
+--   and that there are such: every-list-can-be-called, calls-can-go-on
+-- 'Each call gets the storage and the small numbers as the call before left and answered them, refused or not, and nobody else writes them meanwhile':
+--   each-call-gets-what-was-left; of calls that run `called` (claims/specs/Running.antt), which is told nothing else of the storage
+-- 'Adding a set, once it runs, may stand among them; it is no event': a-call-is-an-add, adding-is-no-event, add-changes-no-set, add-gains-nothing
+-- 'A run over a log whose n and storage are accepted counts, once it runs, as such a starting and the calls of its events': replay-is-starting-and-calls,
+--   the-events-done-are-those-that-join, every-replay-can-be-made, every-tally-can-be-made; `replayed`, `tallied` (claims/specs/Running.antt)
+-- 'The accepted history of the list is found from n and the calls' arguments alone': history, each-call-asks-for-its-event
+-- 'It is empty at first, with nothing open and greatest number 0': `accepted`, `enabled`, `greatest` (model/specs/Model.antt)
+-- 'An event joins it exactly if none of the refusals applies that stand after 9 and 12 in its order': enable-joins-exactly-if, disable-joins-exactly-if
+-- 'They are judged by n and the history so far, whose open channels stand for the rack': the same, and tracker-follows; `joins` (model/specs/Model.antt)
+-- 'An opening that joins opens its channel there, and its number becomes the greatest': one-more-event, an-event-that-joins-is-last, enabled-is-standing;
+--   `greatest` (model/specs/Model.antt)
+-- 'A closing that joins ends the channel it names': an-event-that-joins-is-last, enabled-is-standing
+-- 'An event that doesn't join changes nothing here': an-event-that-does-not-changes-nothing
+-- 'The events that the book accepts are exactly those that join': accepted-exactly-if-it-joins, called-accepted-exactly-if-it-joins
+-- 'Demand 3 is a single claim, for every n and about the list as a whole, and not one for each call': demand-3, called-demand-3
+-- 'The runs for this history are compared, holder by holder and tag by tag, with the book after the last call, or, where the list is empty, with the book
+--   that starting left': demand-3, tracker
+-- 'Demand 3 comes in full with the delivery that first has starting, opening and closing running': no statement on the product
+--
+-- STORAGE
+-- 'The small numbers are n, the count of open channels and the greatest accepted channel number (0 at the start)': start-makes-it-new, tracker-follows,
+--   flows-are-counted; `Header` (state/src/lib.rt)
+-- 'Lent storage is at least 4n words for tag sets, 16n words for permitted sets (four a holder) and n bytes for their counts': size-is-judged
+-- 'all by rising holder number, a holder's permitted sets in the order of adding': tag-is-a-bit, policy-sets-are-stored, add-puts-the-set-last,
+--   policy-sets-are-those-given; `setAt`, `policyAt`, `policyCount` (state/specs/State.antt)
+-- 'The open channels stand in a lent table of 512 records, called the rack, packed from the front in rising number': flow-is-a-record, flows-are-counted,
+--   tracker-follows (the enabled flows in their order), state-is-judged (rising)
+-- 'each has number, from, to': `Flow` (model/src/lib.rt)
+-- 'A closing moves the later records down by one': disable-takes-the-flow-out with flow-is-a-record
+-- 'Unused records and unused permitted words are zero': state-is-judged, start-makes-it-new, start-makes-valid, accepted-call-leaves-valid,
+--   call-keeps-valid, call-keeps-usable
+-- 'Storage beyond these lengths is never written': start-writes-nothing-beyond, call-writes-nothing-beyond, tracker-writes-nothing-beyond,
+--   called-writes-nothing-beyond, replay-leaves-valid; of the table of records start-goes-by-512-records, a-call-goes-by-512-records,
+--   questions-go-by-512-records, the-ranking-goes-by-512-records, a-replay-goes-by-512-records
+-- 'A book is sound if': state-is-judged, clause by clause in `IsValid` (state/specs/IsValid.antt):
+--   'n is 1 to 256': `some`, `most` (state/specs/IsValid.antt)
+--   'counts are at most 512 and 4': `table-count`, `policy-counts` (state/specs/IsValid.antt)
+--   'channel numbers rise strictly from at least 1 and don't pass the greatest': `rising`, `not-past` (state/specs/IsValid.antt)
+--   'all ends are below n and differ': `ends` (state/specs/IsValid.antt)
+--   'no set names a tag of n or more': `known-tags`, `known-policies` (state/specs/IsValid.antt)
+--   'each holder has its own tag': `own` (state/specs/IsValid.antt)
+--   'for each open channel the from-set is part of the to-set': `carried` (state/specs/IsValid.antt)
+--   'unused places are zero': `unused-flows`, `unused-policies` (state/specs/IsValid.antt)
+-- 'The log reader and the tracker are built over numbers and tag sets, and use only their stated behaviour': no theorem; crates.txt
+--   at the repository's root says which crate is over which, and the proof of a function knows of those that it calls their contracts alone
+--
+-- PERMISSION
+-- 'a holder may be sent exactly if its tag set is part of at least one of its permitted sets': legal-rule, a-question-tells; over a list of calls
+--   legal-exactly-if-flows-permit, policy-sets-are-those-given; of calls that run called-legal-exactly-if-flows-permit, called-policy-sets-are-those-given
+-- 'The holder's own tag is compared like any other': legal-rule (every tag)
+-- 'With no permitted set the answer is no': without-policy-set-not-legal
+-- 'The same set may be added twice and takes two places': the-same-set-twice-takes-two-places
+--
+-- RANKING
+-- 'All holders, most tags first; among equal sizes the lower number first': comes-before-exactly-if, the-ranking-is-sorted, the-ranking-is-a-permutation,
+--   no-other-list-is
+-- 'It is written as n 16-bit numbers': rank-writes-the-ranking; `rank` (tracker/src/lib.rt), whose output is of 16 bits
+--
+-- THE LOG
+-- 'A log is n, then records': a-log-is-read-back, an-accepted-log-is-what-we-write; `logOf` (eventlog/specs/Log.antt)
+-- 'Numbers are groups of seven bits, lowest group first; 128 is added to every group but the last': `formOf` (leb128/specs/Number.antt), with the laws
+--   `form-last`, `form-more` (leb128/specs/Form.antt)
+-- 'The shortest form is the only one, with at most five groups and a fifth of at most 15': an-accepted-record-is-what-we-write,
+--   an-accepted-log-is-what-we-write, reading-answers-by-the-table, reading-n-answers-by-the-table; `form-length-width` (leb128/specs/Form.antt);
+--   `maxGroups`, `lastBits` (leb128/specs/Number.antt), five and four at 32 bits
+-- 'Record 0: opening, then channel, from, to. Record 1: closing, then channel': a-record-asks-for-an-enable, a-record-asks-for-a-disable; `fieldsOf`
+--   (eventlog/specs/Answer.antt)
+-- 'Every field holds 32 bits; the reader of a record doesn't judge holders': a-written-record-is-read-back (every event of 32 bits),
+--   reading-answers-no-other-refusal; `kinds` (eventlog/specs/Log.antt)
+-- 'The fields are read left to right and a field that can't be read ends the reading of its record': reading-answers-by-the-table; `fieldsAt`, `field`
+--   (eventlog/specs/Log.antt)
+--
+-- TABLE OF REFUSALS
+-- 1 'the bytes end before the whole of n or of the record being read': reading-answers-by-the-table, reading-n-answers-by-the-table; `IsTruncated`
+--   (leb128/specs/Refusals.antt)
+-- 2 'last of several groups is 0, or the fifth byte, taken whole, is 16 to 255': reading-answers-by-the-table, reading-n-answers-by-the-table; `IsOverlong`
+--   (leb128/specs/Refusals.antt)
+-- 3 'kind is readable and not 0 or 1': reading-answers-by-the-table; `IsUnknown` (eventlog/specs/Refusals.antt)
+-- 4 'a holder or a tag in a set is n or more': enable-answers-by-the-table, add-answers-by-the-table, set-answers-by-the-table, size-answers-by-the-table,
+--   permission-answers-by-the-table; `no-such-from`, `no-such-to`, `no-such-container`, `unknown-tag` (outcome/specs/Table.antt), `no-such-container`
+--   (question/specs/Laws.antt)
+-- 5 'from equals to': enable-answers-by-the-table; `self-flow` (outcome/specs/Table.antt)
+-- 6 'opening's number not above the greatest': enable-answers-by-the-table; `stale-number` (outcome/specs/Table.antt)
+-- 7 '512 channels open': enable-answers-by-the-table; `table-full` (outcome/specs/Table.antt)
+-- 8 'closing's number is not in the rack': disable-answers-by-the-table; `not-enabled` (outcome/specs/Table.antt)
+-- 9 'n is 0 or above 256, or storage shorter than above': size-is-judged, start-answers-by-the-table, n-answers-by-the-table, and first in each order
+-- 10 'output lacks places for the whole answer': writing-answers-10-exactly-if-it-does-not-fit, rank-answers-by-the-table, a-short-output-keeps-its-bytes
+--   'in `tally`, input above 16,384 bytes': the-text-of-long-input
+-- 11 'holder has four permitted sets': add-answers-by-the-table, a-fifth-set-is-not-taken, a-set-is-taken-exactly-if, add-accepted-exactly-if-taken,
+--   called-add-accepted-exactly-if-taken; `policy-full` (outcome/specs/Table.antt)
+-- 12 'storage long enough, book not sound': state-is-judged, and second in each order; `invalid-state` (outcome/specs/Table.antt)
+-- 'Every refusal answers its number with all other numbers 0': refused-start-changes-nothing, refused-call-changes-nothing,
+--   a-refused-question-tells-nothing, reading-answers-by-the-table, reading-n-answers-by-the-table, writing-answers-10-exactly-if-it-does-not-fit; `unread`
+--   (eventlog/specs/Answer.antt), `refused`, `unwritten` (leb128/specs/Answer.antt)
+-- 'the book's small numbers come back as they went in (0 from starting)': refused-call-changes-nothing, refused-start-changes-nothing
+-- 'all lent memory keeps its content': the same, refused-rank-changes-nothing, writing-answers-10-exactly-if-it-does-not-fit, a-short-output-keeps-its-bytes
+-- 'it answers also the byte, counted from 0, at which the refused record begins, the events done and their gain, and the book is as after those events':
+--   replay-is-starting-and-calls, a-refused-event-ends-the-log, the-events-done-are-those-that-join; `Stops` (replay/specs/Laws.antt)
+-- 'If its n or the storage is refused the byte and the small numbers are 0 and nothing is written': a-refused-n-changes-nothing, a-replay-begins-exactly-if
+-- 'A run that meets the end of the bytes between records is complete, and its number and byte are 0': an-accepted-log-is-complete,
+--   replay-is-starting-and-calls; `Completes` (replay/specs/Laws.antt)
+-- 'A call that runs a log in a lent book leaves that book as the run does, on its later refusals too': tally-leaves-what-the-replay-leaves, what-tally-does
+-- 'Places of an output after the answer are never written': rank-writes-the-ranking, a-text-that-fits-is-written,
+--   writing-answers-10-exactly-if-it-does-not-fit; `overwrite` (leb128/specs/Number.antt)
+--
+-- ORDER
+-- 'Starting: 9': start-answers-by-the-table, start-answers-the-first; `startOrder` (outcome/specs/Outcome.antt)
+-- 'Opening: 9, 12, 4 for from, 4 for to, 5, 6, 7': enable-answers-by-the-table, call-answers-the-first; `enableOrder` (outcome/specs/Outcome.antt)
+-- 'Closing: 9, 12, 8': disable-answers-by-the-table, call-answers-the-first; `disableOrder` (outcome/specs/Outcome.antt)
+-- 'Adding a set: 9, 12, 4 for the holder, 4 for the set, 11': add-answers-by-the-table, call-answers-the-first; `addOrder` (outcome/specs/Outcome.antt)
+-- 'Set, size and permission questions: 9, 12, 4': set-answers-by-the-table, size-answers-by-the-table, permission-answers-by-the-table; `questionOrder`
+--   (question/specs/Question.antt)
+-- 'Ranking: 9, 12, 10': rank-answers-by-the-table; `rankOrder` (ranking/specs/Ranking.antt)
+-- 'Reading: 1 or 2 at each field, 3 after the kind': reading-answers-by-the-table; `SomeField`, `IsUnknown` (eventlog/specs/Refusals.antt)
+-- 'Writing: 10': writing-answers-10-exactly-if-it-does-not-fit
+-- 'Run: 1 or 2 at n, 9, then for each record the order of reading and after it that of its event': n-answers-by-the-table, an-accepted-n-is-the-one-read,
+--   replay-is-starting-and-calls, a-refused-event-ends-the-log, joining-goes-on, joining-stops; `containersAt`, `replayEvents` (replay/specs/Replay.antt)
+--
+-- THE PROGRAM
+-- '`tally` reads standard input, up to 16,384 bytes, into a new book': the-program-takes-every-n; `printedOf`, `newStorage` (tallytext/specs/Text.antt), by
+--   the contract of `report_of` (tally/src/main.rt). No theorem says that its caller hands over what was read, and that the text is printed
+-- 'It writes the holders in ranking order, a line each: holder, size, tags rising, with single spaces': the-text-of-a-complete-replay,
+--   the-lines-of-containers, the-line-of-a-container, the-tags-of-a-line, a-number-is-its-digits, every-line-ends, the-tags-printed-are-flows; that the
+--   whole text has room: the-buffer-of-tally-suffices
+-- 'The last line is `events` with the number done and `gain` with their sum': the-line-of-events, the-text-of-a-complete-replay,
+--   the-events-printed-are-those-done
+-- 'A refused record gives instead, after the holder lines, `refused`, the number, `at`, the byte where it begins': the-line-of-a-refusal,
+--   the-text-of-a-refused-replay
+-- 'If n can't be used only that line stands, with byte 0': the-text-without-n, the-program-refuses-n-by-the-table
+-- 'Longer input gives only `refused 10 at 16384`': the-text-of-long-input
+-- 'Document 000's Example 1 [..] is the input 5, 0 1 2 3, 0 2 0 1, 1 2, 0 3 1 2, 1 1, 1 3, 0 4 3 4, 1 4. The whole output': `samples-hold`, the third row of
+--   `samples` (claims/specs/Samples.antt); run by the program itself, tally/stdin and tally/stdout
+--
+-- SAMPLES. Those marked P are rows of `samples`, which `samples-hold` computes (claims/specs/Samples.antt); the rows from the 16th on are not the paper's
+-- 'n 3, no event': row 1
+-- 'the example above; gains 1, 1, 0, 4, 0, 0, 4, 0': rows 2 and 3
+-- 'open 1 to 2, close it, open 0 to 1': row 4
+-- 'open 1 to 2, then 0 to 1, both left open': row 5
+-- 'open 0 to 1, 1 to 2, 2 to 0': row 6
+-- 'open 0 to 1 as 1 and as 2, close 1, open 2 to 0 as 3': row 7
+-- '127 is byte 127; 128 is 128 1; 4,294,967,295 is 255 255 255 255 15': rows 8 to 10
+-- '128 0 and 255 255 255 255 16 give 2; 128 alone gives 1': rows 11 to 13
+-- 'holder 2 with {0, 1, 2}: permitted by {0, 1, 2}, not by {0, 2} and {1, 2}': rows 14 and 15
+-- 'n 256 starts, 257 gives 9. The 512th open channel is accepted, the 513th gives 7, and after one closing an opening is accepted': not marked P, run by the
+--   program samples: samples/stdin, samples/stdout
+--
+-- TRAPS OF THE BENCH, each with the edit that must fail
+-- 'Adding the from-set to the to-holder only, without going on': sets-after-an-enable; outcome/must-fail/propagation_to_the_destination_only.edit
+-- 'Taking the closure of all channels ever opened': sets-after-an-enable, enabled-is-standing; model/must-fail/all_flows_ever_enabled.edit
+-- 'Dropping an edge at the first closing of two alike channels': enabled-is-standing; model/must-fail/disable_drops_alike_flows.edit
+-- 'Uniting the permitted sets before comparing': legal-rule; question/must-fail/policy_sets_united.edit
+--
+-- THE FORMS WE EXPECT are forms of the code: docs/DECISIONS.md at the root, under Forms of document 01. What they ask to be proved:
+-- 'pairs added while spreading are counted and proved equal to the before and after difference': pairs-counted-are-the-gain
+-- 'count of ones on each word, summed and proved equal to the count of set members': size-is-the-number-of-ones
+-- 'For every case of an enum answer, a definition gives this paper's number and values': `answerOf` (calls/specs/Replies.antt), `tagsReply`, `sizeReply`,
+--   `legalReply` (question/specs/Replies.antt), `rankedReply` (ranking/specs/Replies.antt), `endingOf`, `containersOf` (replay/specs/Replies.antt),
+--   `readingOf`, `writingOf` (leb128/specs/Answer.antt), `recordReadingOf`, `headReadingOf` (eventlog/specs/Answer.antt)
+--
+-- AGREED BETWEEN LAB AND BUILDERS
+-- 'every public call has a stated outcome, and that for each input it determines the answer and each byte and word lent, on refusal too': the contracts of
+--   `start`, `enable`, `disable`, `add_policy`, `tags_of`, `size_of`, `is_legal`, `rank`, `replay` (tracker/src/lib.rt), `tally` (report/src/lib.rt);
+--   the-numbers-tell-replies-apart, the-numbers-tell-answers-apart; of the log `read_record`, `write_record`, `read_head`, `write_head` (eventlog/src/lib.rt),
+--   `record-reading-injective`, `head-reading-injective` (eventlog/specs/Laws.antt)
+-- 'The call's contract gives each result as equal to a definition; should these papers leave an answer free, it is named there': the same contracts, which
+--   leave none free; what follows of the call that runs: what-start-does, what-enable-does, what-disable-does, what-add-policy-does, what-replay-does,
+--   what-tally-does
+-- 'a book that calls every book unsound (demand 1, by the table)': state-is-judged, enable-answers-by-the-table, no-call-answers-9-or-12
+-- 'one that answers each holder's own tag for ever, or never changes (demands 2 and 3)': sets-are-flows, demand-3
+-- 'one that spreads at the first opening and later merely stores channels (2 and 3)': sets-after-an-enable, sets-are-flows, demand-3
+-- 'one with an invented gain (2, as gain is counted from its sets)': gain-is-counted, pairs-counted-are-the-gain
+-- 'one that says rack full at the first opening (1)': enable-answers-by-the-table, accepted-exactly-if-it-joins
+-- 'The samples marked P are checked as theorems, all as rows of one table that a single proof covers': `samples-hold` (claims/specs/Samples.antt)
+-- 'The rest, and the paper's own tables, a program runs and compares': no theorem; samples/stdin, samples/stdout
+--
+-- OF NO SENTENCE, but of what the sentences rest on. `apply_enable`, `apply_disable` (calls/src/lib.rt), by which a replay runs, judge no state and are no calls
+--   of the paper: apply-enable-answers-the-first, refused-apply-enable-changes-nothing, apply-disable-answers-the-first,
+--   refused-apply-disable-changes-nothing, apply-enable-is-enable, apply-disable-is-disable, what-apply-enable-does, what-apply-disable-does.
+--   `rank_sets` (ranking/src/lib.rt), by which the text is made, judges none either: rank-sets-writes-the-ranking-or-nothing
 use mathlib.Core.Path.{_≡_, refl, sym, ap, _∙_, subst}
 use mathlib.Core.Bool.{true, false}
 use mathlib.Core.List.{List, [], _∷_, _++_, map}
@@ -97,7 +356,8 @@ use Rattle.claims.specs.Permission.{takes, givenTo, SameSets, Known, tak
 -- SomeField, IsUnknown (eventlog/specs/Refusals.antt); IsEvent, IsRecord, IsLog, complete (Laws.antt, LogLaws.antt), AreEvents (Records.antt);
 -- ContainersAnswers, AllAccepted, gainsOf, Completes, Stops, Replays (replay/specs/Laws.antt); joining, doneOf (Joins.antt); lineWith, IsLine
 -- (tallytext/specs/Words.antt, Laws.antt); takes, givenTo, SameSets, Known (Permission.antt); StartDoes, EventDoes, EnableDoes, DisableDoes, AddDoes,
--- Called, withNewTable (Running.antt); lentFront, frontOf, outcomeBeyond, replayBeyond (front/specs/Front.antt); Standing, Accepted, Occurs, MayEnable, Within (model/specs/Standing.antt, Histories.antt, Closure.antt).
+-- Called, withNewTable (Running.antt); lentFront, frontOf, outcomeBeyond, replayBeyond (front/specs/Front.antt); Standing, Accepted, Occurs, MayEnable,
+-- Within (model/specs/Standing.antt, Histories.antt, Closure.antt).
 
 -- DEMAND 1: the work, or the refusal that comes first in the paper's order; a refused event changes nothing
 
