@@ -16,8 +16,8 @@ use borrow.Author.Tests.{lt-ltb, le-ltb}
 use borrow.Table.Steps.{cases}
 use Rattle.model.specs.declared.Flow.{Flow}
 use Rattle.model.specs.Model.{edges, edgesOf}
-use Rattle.tagset.specs.Set.{unionOf, sameOf, sizeOf}
-use Rattle.tagset.specs.Laws.{same-eq, union-words}
+use Rattle.tagset.specs.Set.{subsetOf, sizeOf}
+use Rattle.tagset.specs.Laws.{union-absorbs}
 use Rattle.state.specs.State.{setAt}
 use Rattle.state.specs.Layout.{Fit64, set-fits}
 use Rattle.tagstore.specs.Store.{putSet}
@@ -52,13 +52,11 @@ edge-past n found e ws past =
     cases (inside n e) (λ q. let p = inside-iff n e .0 q in absurd (⊎-elim (λ l. omega arith) (λ l. omega arith) past))
     (λ q. let none = edge-outside n found e ws q in (sym (none .0), sym (none .1)))
 
--- nor does one that is inside, where the union is found the same as the set of its destination
+-- nor does one that is inside, where its destination has what its source had
 pub edge-same : (n : ℕ) (found : List ℕ) (e : ℕ × ℕ) (ws : List ℕ) → inside n e ≡ true → Fit64 found → Fit64 ws
-    → sameOf (unionOf (setAt ws (e .1)) (setAt found (e .0))) (setAt ws (e .1)) ≡ true → (ws ≡ carried n found e ws) × (0 ≡ newTags n found e ws)
-edge-same n found e ws q ff fw found-same =
-    let old = set-fits ws (e .1) fw in
-    let new = union-words (setAt ws (e .1)) (setAt found (e .0)) old (set-fits found (e .0) ff) in
-    let same = same-eq (unionOf (setAt ws (e .1)) (setAt found (e .0))) (setAt ws (e .1)) new old found-same in
+    → subsetOf (setAt found (e .0)) (setAt ws (e .1)) ≡ true → (ws ≡ carried n found e ws) × (0 ≡ newTags n found e ws)
+edge-same n found e ws q ff fw part =
+    let same = union-absorbs (setAt ws (e .1)) (setAt found (e .0)) (set-fits ws (e .1) fw) (set-fits found (e .0) ff) part in
     let put = edge-inside n found e ws q in
     (sym (put .0 ∙ ap (putSet ws (e .1)) same ∙ put-same ws (e .1)), omega (arith, put .1, ap sizeOf same))
 

@@ -78,10 +78,11 @@ fn carry(found: &[u64], tags: &mut [u64], n: u32, a: u32, b: u32) -> u32
     }
     let i = b as usize;
     let old = tagstore::load_set(tags, i);
-    let new = old.union(tagstore::load_set(found, a as usize));
-    if new.equals(old) {
+    let source = tagstore::load_set(found, a as usize);
+    if source.is_subset(old) {
         return 0;
     }
+    let new = old.union(source);
     tagstore::store_set(tags, i, new);
     new.size() - old.size()
 }

@@ -7,7 +7,7 @@ use Prim.Native.Nat.{ℕ, zero, suc, _+_, _*_, _-_, _/_, _%_, _^_, _≤_, _<_}
 use native.Mathlib.Nat.{mod-lt, sub-zero, one-mul, mod-eq-of-lt, div-add-mod', min-eq-left, min-eq-right, sub-eq-zero-of-le, le-of-lt}
 use native.Mathlib.Omega.{arith}
 use lib.Arith.{digits-div, digits-mod}
-use lib.Bits.{bitAnd, and-lt, and-mask}
+use lib.Bits.{bitAnd, bitOr, and-le-l, and-le-r, and-lt, and-mask, or-add-and}
 use lib.Dec.{eqb, lit<}
 use lib.ListN.{getD, set, length}
 use lib.Pow.{pow-lt, pow-pos}
@@ -148,8 +148,8 @@ tests-same = record {
   back = λ x y hx hy h. eq-eqb x y (bits-ext 64 x y hx hy (λ k l. beq-true (bitAt x k) (bitAt y k) (h k l)));
 }
 
--- a subset, as the code tests it
-pub subset-words : (a b : TagSet) → IsWords a → IsWords b
+-- a subset, word by word
+subset-words : (a b : TagSet) → IsWords a → IsWords b
     → subsetOf a b
     ≡ within (getD (a .words) 0 0) (getD (b .words) 0 0)
     && within (getD (a .words) 1 0) (getD (b .words) 1 0)
@@ -157,6 +157,44 @@ pub subset-words : (a b : TagSet) → IsWords a → IsWords b
     && within (getD (a .words) 3 0) (getD (b .words) 3 0)
 unfolding subsetOf
 subset-words = tests-words implies within tests-within
+
+-- nothing is left of a word without what both have where it has no bit that the other lacks; nothing is in two words where nothing is in either
+left-none : (x y : ℕ) → eqb (x - bitAnd x y) 0 ≡ within x y
+left-none x y =
+    let l = and-le-l x y in
+    iff (eqb (x - bitAnd x y) 0) (within x y) (λ e. eq-eqb (bitAnd x y) x (omega (arith, l, eqb-true (x - bitAnd x y) 0 e)))
+    (λ e. eq-eqb (x - bitAnd x y) 0 (omega (arith, l, eqb-true (bitAnd x y) x e)))
+
+or-none : (x y : ℕ) → eqb (bitOr x y) 0 ≡ eqb x 0 && eqb y 0
+or-none x y =
+    let s = or-add-and x y in
+    let l = and-le-l x y in
+    let r = and-le-r x y in
+    iff (eqb (bitOr x y) 0) (eqb x 0 && eqb y 0)
+    (λ e.
+    let z = eqb-true (bitOr x y) 0 e in
+    ap₂ (λ (p q : Bool). p && q) (eq-eqb x 0 (omega (arith, s, l, r, z))) (eq-eqb y 0 (omega (arith, s, l, r, z))))
+    (λ e.
+    let p = and-both (eqb x 0) (eqb y 0) e in
+    let v = eqb-true x 0 (p .0) in
+    let w = eqb-true y 0 (p .1) in
+    eq-eqb (bitOr x y) 0 (omega (arith, s, v, w)))
+
+-- what is left of word q of a set without what another has of it
+abbrev pub left : TagSet → TagSet → ℕ → ℕ
+left a b q = getD (a .words) q 0 - bitAnd (getD (a .words) q 0) (getD (b .words) q 0)
+
+-- a subset, as the code tests it: the four words as one
+pub subset-tested : (a b : TagSet) → IsWords a → IsWords b → eqb (bitOr (bitOr (bitOr (left a b 0) (left a b 1)) (left a b 2)) (left a b 3)) 0 ≡ subsetOf a b
+subset-tested a b ha hb =
+    or-none (bitOr (bitOr (left a b 0) (left a b 1)) (left a b 2)) (left a b 3)
+    ∙ ap (λ (u : Bool). u && eqb (left a b 3) 0)
+    (or-none (bitOr (left a b 0) (left a b 1)) (left a b 2) ∙ ap (λ (u : Bool). u && eqb (left a b 2) 0) (or-none (left a b 0) (left a b 1)))
+    ∙ (λ i. word 0 i && word 1 i && word 2 i && word 3 i)
+    ∙ sym (subset-words a b ha hb)
+  where
+    word : (q : ℕ) → eqb (left a b q) 0 ≡ within (getD (a .words) q 0) (getD (b .words) q 0)
+    word q = left-none (getD (a .words) q 0) (getD (b .words) q 0)
 
 -- the same tags, as the code tests them
 pub same-tested : (a b : TagSet) → IsWords a → IsWords b

@@ -83,14 +83,15 @@ impl TagSet {
         }
     }
 
-    // Whether every tag of this set is in the other.
+    // Whether every tag of this set is in the other: whether nothing is left of its words without what both have. The four words are tested as one.
     pub fn is_subset(self, other: TagSet) -> bool
         ensures { λ r. ⌜ r ≡ subsetOf self other ⌝ }
     {
-        (self.words[0] & other.words[0] == self.words[0])
-            & (self.words[1] & other.words[1] == self.words[1])
-            & (self.words[2] & other.words[2] == self.words[2])
-            & (self.words[3] & other.words[3] == self.words[3])
+        let a = self.words[0] - (self.words[0] & other.words[0]);
+        let b = self.words[1] - (self.words[1] & other.words[1]);
+        let c = self.words[2] - (self.words[2] & other.words[2]);
+        let d = self.words[3] - (self.words[3] & other.words[3]);
+        a | b | c | d == 0
     }
 
     // Whether both sets have the same tags.

@@ -6,7 +6,7 @@ use Prim.Native.Nat.{ℕ, _+_}
 use native.Mathlib.Omega.{arith}
 use borrow.Author.Needs.{needs}
 use Rattle.tagset.specs.declared.TagSet.{TagSet}
-use Rattle.tagset.specs.Set.{unionOf, sameOf, sizeOf}
+use Rattle.tagset.specs.Set.{unionOf, subsetOf, sizeOf}
 use Rattle.state.specs.State.{setAt}
 use Rattle.tagstore.specs.Store.{putSet}
 use Rattle.tagstore.specs.Laws.{load-whole, store-whole}
@@ -38,17 +38,21 @@ within c = inside-iff _ (Edge (c .before .before .before .before)) .1 (c .before
 old-is : (c : tie.After-load-set) → c .load-set .result ≡ Old (c .before .before .before .before .before .before)
 old-is c = c .load-set .ensures ∙ load-whole _ _ (omega arith)
 
--- and its union with what is read of the sets found
-new-is : (c : tie.After-union) → c .union .result ≡ New (c .before .before .before .before .before .before .before .before)
-new-is c = c .union .ensures ∙ ap₂ unionOf (old-is (c .before .before)) (c .before .load-set2 .ensures ∙ load-whole _ _ (omega arith))
+-- and what is read of the sets found is set a of these
+source-is : (c : tie.After-load-set2) → c .load-set2 .result ≡ setAt (c .before .before .before .before .before .before .before .args .found .now) (c .before .before .before .before .before .before .before .args .a)
+source-is c = c .load-set2 .ensures ∙ load-whole _ _ (omega arith)
+
+-- their union
+new-is : (c : tie.After-union) → c .union .result ≡ New (c .before .before .before .before .before .before .before .before .before .before)
+new-is c = c .union .ensures ∙ ap₂ unionOf (old-is (c .before .before .before .before)) (source-is (c .before .before .before))
 
 -- the union is larger by the new tags
 sizes : (c : tie.After-size2)
     → let start = c .before .before .before .before .before .before .before .before .before .before .before .before .before .before .before .before in
     c .before .size .result ≡ c .size2 .result + Gain start
 sizes c =
-    let union = c .before .before .before .before .before .before .before .before in
-    let load = union .before .before in
+    let union = c .before .before .before .before .before .before in
+    let load = union .before .before .before .before in
     let inside = load .before .before in
     let start = inside .before .before .before .before in
     let put = edge-inside (start .args .n) (start .args .found .now) (Edge start) (start .args .tags .now) (within inside) in
@@ -66,23 +70,23 @@ load-set-requires c κs = search needs
 load-set-requires-2 : tie.Need-load-set-requires-2
 load-set-requires-2 c κs = search needs
 
-union-requires : tie.Need-union-requires
-union-requires c κs = search needs
-
-equals-requires : tie.Need-equals-requires
-equals-requires c κs = search needs
+is-subset-requires : tie.Need-is-subset-requires
+is-subset-requires c κs = search needs
 
 same-length : tie.Need-same-length
 same-length c = search needs
 
 returns-3 : tie.Need-returns-3
 returns-3 c =
-    let union = c .before .before in
-    let load = union .before .before in
+    let source = c .before .before in
+    let load = source .before in
     let inside = load .before .before in
     let known = inside .before .before in
     edge-same _ _ (Edge (known .before .before)) _ (within inside) (λ i. known .before .shared-slice-known .given i .fits)
-    (λ i. known .slice-known .given i .fits) (sym (ap₂ sameOf (new-is union) (old-is load)) ∙ sym (c .before .equals .ensures) ∙ c .if3 .taken)
+    (λ i. known .slice-known .given i .fits) (sym (ap₂ subsetOf (source-is source) (old-is load)) ∙ sym (c .before .is-subset .ensures) ∙ c .if3 .taken)
+
+union-requires : tie.Need-union-requires
+union-requires c κs = search needs
 
 store-set-requires : tie.Need-store-set-requires
 store-set-requires c κs = search needs
@@ -101,8 +105,8 @@ same-length-2 c = search needs
 
 returns-4 : tie.Need-returns-4
 returns-4 c =
-    let union = c .before .before .before .before .before .before .before .before in
-    let inside = union .before .before .before .before in
+    let union = c .before .before .before .before .before .before in
+    let inside = union .before .before .before .before .before .before in
     let start = inside .before .before .before .before in
     let tags = start .args .tags .now in (
       c .before .before .before .before .store-set .ensures ∙ store-whole _ _ _ (omega arith) ∙ ap (putSet tags (start .args .b)) (new-is union)
@@ -118,10 +122,10 @@ carry-spec =
     returns-2
     load-set-requires
     load-set-requires-2
-    union-requires
-    equals-requires
+    is-subset-requires
     same-length
     returns-3
+    union-requires
     store-set-requires
     size-requires
     size-requires-2

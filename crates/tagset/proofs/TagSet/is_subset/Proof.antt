@@ -1,10 +1,10 @@
--- `is_subset` meets its contract: the tags of a word are in the other set where the word has no bit that the other lacks.
--- Each `λ c. lit< tt` answers for the read of a word: its index is a constant below 4. Assumes nothing.
-use mathlib.Core.Path.{sym}
+-- `is_subset` meets its contract: nothing is left of a word without what both have where it has no bit that the other lacks.
+-- Each `λ c. lit< tt` answers for the read of a word: its index is a constant below 4; what both have of a word is at most the word. Assumes nothing.
+use lib.Bits.{and-le-l}
 use lib.Dec.{lit<}
 use borrow.Author.Needs.{needs}
 use Rattle.tagset.specs.Set.{IsWords}
-use Rattle.tagset.specs.Word.{words-of, subset-words}
+use Rattle.tagset.specs.Word.{words-of, subset-tested}
 use Rattle.tagset.proofs.TagSet.is_subset.Statement.{statement}
 use Rattle.tagset.proofs.TagSet.is_subset.Tie as tie
 
@@ -18,7 +18,7 @@ its c = words-of (c .args .t2) (search needs) (λ i. search needs)
 returns : tie.Need-returns
 returns c =
     let s = c .before .before .before .before .before .before .before .before .before .before .before .before in
-    sym (subset-words _ _ (mine s) (its s))
+    subset-tested _ _ (mine s) (its s)
 
 pub is-subset-spec : {M : Type 1} → statement M
 is-subset-spec =
@@ -27,13 +27,17 @@ is-subset-spec =
     (λ c. lit< tt)
     (λ c. lit< tt)
     (λ c. lit< tt)
+    (λ c. and-le-l _ _)
     (λ c. lit< tt)
     (λ c. lit< tt)
     (λ c. lit< tt)
+    (λ c. and-le-l _ _)
     (λ c. lit< tt)
     (λ c. lit< tt)
     (λ c. lit< tt)
+    (λ c. and-le-l _ _)
     (λ c. lit< tt)
     (λ c. lit< tt)
     (λ c. lit< tt)
+    (λ c. and-le-l _ _)
     returns)
