@@ -4,12 +4,13 @@ use mathlib.Core.Bool.{Bool, true, false, _&&_, not, cond, false≢true}
 use mathlib.Core.List.{List, [], _∷_, List·Memᴰ·head, List·Memᴰ·tail, List·Memᴰ·not-nil, List·Memᴰ·eq-of-singleton, List·Memᴰ·cases-cons}
 use mathlib.Core.Logic.{_↔_, ⊎-elim}
 use Prim.Native.Nat.{ℕ, _+_, _*_, _/_, _%_, _≤_, _<_}
+use native.Mathlib.Nat.{add-zero}
 use native.Mathlib.Omega.{arith}
 use lib.Dec.{leb, ltb}
 use lib.ListN.{getD}
 use borrow.Table.Steps.{cases}
 use borrow.Author.Tests.{ltb-true, ltb-false, not-false}
-use Rattle.truth.specs.Truth.{iff, and-iff, not-iff, le-iff, lt-iff, ne-iff}
+use Rattle.truth.specs.Truth.{iff, and-both, both-and, and-iff, not-iff, le-iff, lt-iff, ne-iff}
 use Rattle.model.specs.declared.Flow.{Flow}
 use Rattle.model.specs.Model.{_∈_}
 use Rattle.model.specs.Standing.{edge-of, of-edge}
@@ -26,6 +27,39 @@ use Rattle.state.specs.Valid.{allOf, validOf}
 use Rattle.validity.specs.Scan.{policiesValid, containersValid, flowValid, flowsValid, recordsZero}
 
 -- Tests, each with what it says
+
+-- four tests one by one
+four : (f : ℕ → Bool) → f 0 && f 1 && f 2 && f 3 ≡ allBelow 4 f
+unfolding allBelow
+four f =
+    iff (f 0 && f 1 && f 2 && f 3) (f 3 && (f 2 && (f 1 && (f 0 && true))))
+    (λ e.
+    let p = and-both (f 0 && f 1 && f 2) (f 3) e in
+    let q = and-both (f 0 && f 1) (f 2) (p .0) in
+    let r = and-both (f 0) (f 1) (q .0) in
+    both-and (p .1) (both-and (q .1) (both-and (r .1) (both-and (r .0) refl))))
+    (λ e.
+    let p = and-both (f 3) (f 2 && (f 1 && (f 0 && true))) e in
+    let q = and-both (f 2) (f 1 && (f 0 && true)) (p .1) in
+    let r = and-both (f 1) (f 0 && true) (q .1) in
+    both-and (both-and (both-and (and-both (f 0) true (r .1) .0) (r .0)) (q .0)) (p .0))
+
+-- the places for policy sets, each compared with what it may hold where `m` are in use
+pub places-valid : (known : TagSet) (ps : List ℕ) (c : ℕ) {count : ℕ} (m : ℕ) {p q r s : TagSet} → count ≡ m → leb m 4 ≡ true
+    → p ≡ cond (ltb 0 m) known emptySet → q ≡ cond (ltb 1 m) known emptySet → r ≡ cond (ltb 2 m) known emptySet → s ≡ cond (ltb 3 m) known emptySet
+    → subsetOf (setAt ps (4 * c)) p && subsetOf (setAt ps (4 * c + 1)) q && subsetOf (setAt ps (4 * c + 2)) r && subsetOf (setAt ps (4 * c + 3)) s
+    ≡ policiesValid known ps c count
+unfolding policiesValid
+places-valid known ps c m e most ep eq er es =
+    (λ i. subsetOf (setAt ps (4 * c)) (ep i) && subsetOf (setAt ps (4 * c + 1)) (eq i) && subsetOf (setAt ps (4 * c + 2)) (er i) && subsetOf (setAt ps (4 * c + 3)) (es i))
+    ∙ ap (λ (z : ℕ).
+    subsetOf (setAt ps z) (cond (ltb 0 m) known emptySet)
+    && subsetOf (setAt ps (4 * c + 1)) (cond (ltb 1 m) known emptySet)
+    && subsetOf (setAt ps (4 * c + 2)) (cond (ltb 2 m) known emptySet)
+    && subsetOf (setAt ps (4 * c + 3)) (cond (ltb 3 m) known emptySet)) (sym (add-zero (4 * c)))
+    ∙ four (λ k. subsetOf (setAt ps (4 * c + k)) (cond (ltb k m) known emptySet))
+    ∙ ap (λ (b : Bool). b && allBelow 4 (λ k. subsetOf (setAt ps (4 * c + k)) (cond (ltb k m) known emptySet))) (sym most)
+    ∙ ap (λ (k : ℕ). policiesValid known ps c k) (sym e)
 
 -- one below n fails, so not every one passes
 pub all-fails : (n : ℕ) (f : ℕ → Bool) (k : ℕ) → k < n → f k ≡ false → allBelow n f ≡ false

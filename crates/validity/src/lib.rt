@@ -3,11 +3,12 @@ use model::Flow;
 use state::Header;
 use tagset::TagSet;
 ghost use mathlib.Core.Path.{_≡_};
-ghost use mathlib.Core.Bool.{false};
+ghost use mathlib.Core.Bool.{false, _&&_};
 ghost use Prim.Native.Nat.{_+_, _*_, _≤_};
 ghost use lib.ListN.{length, take};
 ghost use Rattle.refusal.specs.Order.{firstOf};
-ghost use Rattle.state.specs.State.{shortOf, stateOf};
+ghost use Rattle.tagset.specs.Set.{subsetOf};
+ghost use Rattle.state.specs.State.{shortOf, stateOf, setAt};
 ghost use Rattle.state.specs.Valid.{validOf, stateOrder};
 ghost use Rattle.validity.specs.Judge.{judgementOf};
 ghost use Rattle.validity.specs.Scan.{policiesValid, containersValid, flowValid, flowsValid, recordsZero};
@@ -85,7 +86,7 @@ fn containers_valid(n: u32, tags: &[u64], policies: &[u64], counts: &[u8]) -> bo
     let mut c: u32 = 0;
     while c < n {
         let i = c as usize;
-        let set = tagstore::load_set(tags, i);
+        let set = set_at(tags, i);
         if !set.contains(c) {
             return false;
         }
@@ -105,19 +106,38 @@ fn policies_valid(policies: &[u64], c: usize, count: u8, known: TagSet) -> bool
     requires { ⌜ 16 * c + 16 ≤ length (now policies) ⌝ }
     ensures { λ r. ⌜ r ≡ policiesValid known (now (policies .entry)) c count ⌝ }
 {
-    if 4 < count {
-        return false;
+    let none = TagSet::empty();
+    match count {
+        0 => sets_within(policies, c, none, none, none, none),
+        1 => sets_within(policies, c, known, none, none, none),
+        2 => sets_within(policies, c, known, known, none, none),
+        3 => sets_within(policies, c, known, known, known, none),
+        4 => sets_within(policies, c, known, known, known, known),
+        _ => false,
     }
-    let mut k: u8 = 0;
-    while k < 4 {
-        let set = tagstore::load_set(policies, 4 * c + k as usize);
-        let limit = if k < count { known } else { TagSet::empty() };
-        if !set.is_subset(limit) {
-            return false;
-        }
-        k += 1;
+}
+
+// Whether the four places for policy sets of container c hold no more than p, q, r and s.
+fn sets_within(policies: &[u64], c: usize, p: TagSet, q: TagSet, r: TagSet, s: TagSet) -> bool
+    requires { ⌜ 16 * c + 16 ≤ length (now policies) ⌝ }
+    ensures { λ b. ⌜ b ≡ subsetOf (setAt (now (policies .entry)) (4 * c)) p && subsetOf (setAt (now (policies .entry)) (4 * c + 1)) q && subsetOf (setAt (now (policies .entry)) (4 * c + 2)) r && subsetOf (setAt (now (policies .entry)) (4 * c + 3)) s ⌝ }
+{
+    let k = 4 * c;
+    set_at(policies, k).is_subset(p)
+        & set_at(policies, k + 1).is_subset(q)
+        & set_at(policies, k + 2).is_subset(r)
+        & set_at(policies, k + 3).is_subset(s)
+}
+
+// Set k, which the words have.
+fn set_at(words: &[u64], k: usize) -> TagSet
+    requires { ⌜ 4 * k + 4 ≤ length (now words) ⌝ }
+    ensures { λ r. ⌜ r ≡ setAt (now (words .entry)) k ⌝ }
+{
+    let b = 4 * k;
+    TagSet {
+        words: [words[b], words[b + 1], words[b + 2], words[b + 3]],
     }
-    true
 }
 
 // Whether the enabled flows' numbers rise from at least 1, and each flow is valid.
@@ -159,8 +179,8 @@ fn flow_valid(header: Header, tags: &[u64], f: Flow) -> bool
     if f.from == f.to {
         return false;
     }
-    let source = tagstore::load_set(tags, f.from as usize);
-    source.is_subset(tagstore::load_set(tags, f.to as usize))
+    let source = set_at(tags, f.from as usize);
+    source.is_subset(set_at(tags, f.to as usize))
 }
 
 // Whether the records from `count` on are zero.

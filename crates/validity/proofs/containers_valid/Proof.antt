@@ -12,7 +12,6 @@ use borrow.Author.Tests.{not-true, not-false}
 use Rattle.truth.specs.Truth.{both-and}
 use Rattle.tagset.specs.Below.{all-make}
 use Rattle.tagset.specs.Set.{has, belowOf, subsetOf}
-use Rattle.tagstore.specs.Laws.{load-whole}
 use Rattle.state.specs.State.{setAt}
 use Rattle.validity.specs.Scan.{policiesValid, containersValid}
 use Rattle.validity.specs.Scanned.{all-fails}
@@ -31,9 +30,9 @@ abbrev μ-loop : tie.MeasureT-loop
 μ-loop n tags policies counts known c₀ c = n - c
 
 -- container c's tags
-loaded : (c : tie.After-load-set Inv-loop μ-loop)
-    → (let l = c .before .before in let s = l .before .before .before .before .before .args in c .load-set .result ≡ setAt (s .tags .now) (l .loop .c))
-loaded c = c .load-set .ensures ∙ load-whole _ _ (omega arith)
+loaded : (c : tie.After-set-at Inv-loop μ-loop)
+    → (let l = c .before .before in let s = l .before .before .before .before .before .args in c .set-at .result ≡ setAt (s .tags .now) (l .loop .c))
+loaded c = c .set-at .ensures
 
 -- whether its own is among them
 own : (c : tie.After-contains Inv-loop μ-loop)
@@ -71,8 +70,8 @@ loop-holds c = (search needs, below-none _)
 cast-i : tie.Need-cast-i Inv-loop μ-loop
 cast-i c = search needs
 
-load-set-requires : tie.Need-load-set-requires Inv-loop μ-loop
-load-set-requires c κs = search needs
+set-at-requires : tie.Need-set-at-requires Inv-loop μ-loop
+set-at-requires c κs = search needs
 
 contains-requires : tie.Need-contains-requires Inv-loop μ-loop
 contains-requires c κs = search needs
@@ -126,7 +125,7 @@ containers-valid-spec =
     below-requires
     loop-holds
     cast-i
-    load-set-requires
+    set-at-requires
     contains-requires
     returns
     is-subset-requires

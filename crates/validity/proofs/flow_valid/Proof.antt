@@ -5,7 +5,6 @@ use native.Mathlib.Omega.{arith}
 use borrow.Author.Needs.{needs}
 use borrow.Author.Tests.{lt-ltb, le-ltb, le-leb, lt-leb, eq-eqb, ne-eqb}
 use Rattle.tagset.specs.Set.{subsetOf}
-use Rattle.tagstore.specs.Laws.{load-whole}
 use Rattle.state.specs.Valid.{allOf}
 use Rattle.validity.specs.Scan.{flowValid}
 use Rattle.validity.proofs.flow_valid.Statement.{statement}
@@ -27,17 +26,17 @@ returns-4 : tie.Need-returns-4
 unfolding flowValid
 returns-4 c = let a = c .before .before .before .before .before .before .before .before .before .before .before .before .args in simp (eq-eqb (a .f .from) (a .f .to) (omega arith), and-false)
 
-cast-load-set : tie.Need-cast-load-set
-cast-load-set c = search needs
+cast-set-at : tie.Need-cast-set-at
+cast-set-at c = search needs
 
-load-set-requires : tie.Need-load-set-requires
-load-set-requires c κs = search needs
+set-at-requires : tie.Need-set-at-requires
+set-at-requires c κs = search needs
 
-cast-load-set-2 : tie.Need-cast-load-set-2
-cast-load-set-2 c = search needs
+cast-set-at-2 : tie.Need-cast-set-at-2
+cast-set-at-2 c = search needs
 
-load-set-requires-2 : tie.Need-load-set-requires-2
-load-set-requires-2 c κs = search needs
+set-at-requires-2 : tie.Need-set-at-requires-2
+set-at-requires-2 c κs = search needs
 
 is-subset-requires : tie.Need-is-subset-requires
 is-subset-requires c κs = search needs
@@ -50,7 +49,7 @@ returns-5 c =
     let e2 = e3 .before .before .before in
     let e1 = e2 .before .before .before in
     simp (le-leb _ _ (e1 .if1 .left), lt-ltb _ _ (e2 .if2 .left), lt-ltb _ _ (e3 .if3 .left), ne-eqb _ _ (e4 .if4 .left), and-true)
-    (c .is-subset .ensures ∙ ap₂ subsetOf (c .before .before .before .load-set .ensures ∙ load-whole _ _ (omega arith)) (c .before .load-set2 .ensures ∙ load-whole _ _ (omega arith)))
+    (c .is-subset .ensures ∙ ap₂ subsetOf (c .before .before .before .set-at .ensures) (c .before .set-at2 .ensures))
 
 pub flow-valid-spec : {M : Type 1} → statement M
 flow-valid-spec =
@@ -60,9 +59,9 @@ flow-valid-spec =
     returns-2
     returns-3
     returns-4
-    cast-load-set
-    load-set-requires
-    cast-load-set-2
-    load-set-requires-2
+    cast-set-at
+    set-at-requires
+    cast-set-at-2
+    set-at-requires-2
     is-subset-requires
     returns-5)

@@ -1,113 +1,72 @@
--- `policies_valid` meets its contract. The loop's invariant: each of the places passed holds what it may. The measure is what is left of the four.
--- Assumes nothing.
-use mathlib.Core.Bool.{Bool, true, cond, and-false}
-use mathlib.Core.List.{List}
-use mathlib.Core.Logic.{⊎-elim}
-use mathlib.Core.Path.{_≡_, sym, ap₂, _∙_}
-use Prim.Native.Nat.{ℕ, _+_, _*_, _-_, _≤_, _<_}
+-- `policies_valid` meets its contract: each number of policy sets up to four has its row, and every other is refused. Assumes nothing.
+use mathlib.Core.Path.{_∙_, refl}
+use mathlib.Core.Logic.{_≢_}
+use Prim.Native.Nat.{ℕ, _≤_, _<_}
 use native.Mathlib.Omega.{arith}
-use lib.Dec.{ltb}
-use borrow.Author.Count.{below-none, below-more}
-use borrow.Author.Needs.{needs}
-use borrow.Author.Tests.{lt-ltb, le-ltb, le-leb, lt-leb, not-true, not-false}
-use Rattle.truth.specs.Truth.{both-and}
-use Rattle.tagset.specs.declared.TagSet.{TagSet}
-use Rattle.tagset.specs.Below.{all-make}
-use Rattle.tagset.specs.Set.{emptySet, subsetOf}
-use Rattle.tagstore.specs.Laws.{load-whole}
-use Rattle.state.specs.State.{setAt}
+use borrow.Author.Tests.{lt-leb}
 use Rattle.validity.specs.Scan.{policiesValid}
-use Rattle.validity.specs.Scanned.{all-fails}
+use Rattle.validity.specs.Scanned.{places-valid}
+use borrow.Author.Needs.{needs}
 use Rattle.validity.proofs.policies_valid.Statement.{statement}
 use Rattle.validity.proofs.policies_valid.Tie as tie
 
--- place j holds what it may
-abbrev placed : List ℕ → ℕ → ℕ → TagSet → ℕ → Bool
-placed policies c count known j = subsetOf (setAt policies (4 * c + j)) (cond (ltb j count) known emptySet)
+-- a number that is at least j and not j is more
+next : {k : ℕ} (j : ℕ) → j ≤ k → k ≢ j → j < k
+next j l n = omega arith
 
-abbrev Inv-loop : tie.InvT-loop
-Inv-loop policies c count known k₀ k = (k ≤ 4) × ((j : ℕ) → j < k → placed policies c count known j ≡ true)
-
-abbrev μ-loop : tie.MeasureT-loop
-μ-loop policies c count known k₀ k = 4 - k
-
--- what the place may hold
-limited : (c : tie.Joined2 Inv-loop μ-loop)
-    → (let l = c .before .before .before in let s = l .before .before .before .args in c .if2 .limit ≡ cond (ltb (l .loop .k) (s .count)) (s .known) emptySet)
-limited c =
-    ⊎-elim (λ w. simp (lt-ltb _ _ (w .0 .taken)) (w .1)) (λ w. simp (le-ltb _ _ (w .0 .left)) (w .2 ∙ w .1 .ensures)) (c .if2 .came)
-
--- what is tested
-tested : (c : tie.After-is-subset Inv-loop μ-loop)
-    → (let l = c .before .before .before .before in let s = l .before .before .before .args in
-    c .is-subset .result ≡ placed (s .policies .now) (s .c) (s .count) (s .known) (l .loop .k))
-tested c = c .is-subset .ensures ∙ ap₂ subsetOf (c .before .before .load-set .ensures ∙ load-whole _ _ (omega arith)) (limited (c .before))
-
-returns : tie.Need-returns Inv-loop μ-loop
-unfolding policiesValid
-returns c = simp (lt-leb (c .before .before .args .count) 4 (omega arith))
-
-loop-holds : tie.Need-loop-holds Inv-loop μ-loop
-loop-holds c = (search needs, below-none _)
-
-mul-load-set : tie.Need-mul-load-set Inv-loop μ-loop
-mul-load-set c = search needs
-
-cast-load-set : tie.Need-cast-load-set Inv-loop μ-loop
-cast-load-set c = search needs
-
-add-load-set : tie.Need-add-load-set Inv-loop μ-loop
-add-load-set c = search needs
-
-load-set-requires : tie.Need-load-set-requires Inv-loop μ-loop
-load-set-requires c κs = search needs
-
-empty-requires : tie.Need-empty-requires Inv-loop μ-loop
+empty-requires : tie.Need-empty-requires
 empty-requires c κs = search needs
 
-is-subset-requires : tie.Need-is-subset-requires Inv-loop μ-loop
-is-subset-requires c κs = search needs
+sets-within-requires : tie.Need-sets-within-requires
+sets-within-requires c κs = search needs
 
-returns-2 : tie.Need-returns-2 Inv-loop μ-loop
+sets-within-requires-2 : tie.Need-sets-within-requires-2
+sets-within-requires-2 c κs = search needs
+
+sets-within-requires-3 : tie.Need-sets-within-requires-3
+sets-within-requires-3 c κs = search needs
+
+sets-within-requires-4 : tie.Need-sets-within-requires-4
+sets-within-requires-4 c κs = search needs
+
+sets-within-requires-5 : tie.Need-sets-within-requires-5
+sets-within-requires-5 c κs = search needs
+
+returns : tie.Need-returns
+returns c = let e = c .before .before .empty .ensures in c .sets-within .ensures ∙ places-valid _ _ _ _ (c .before .match .keys1) refl (e) (e) (e) (e)
+
+returns-2 : tie.Need-returns-2
+returns-2 c = let e = c .before .before .empty .ensures in c .sets-within2 .ensures ∙ places-valid _ _ _ _ (c .before .match .keys2) refl refl (e) (e) (e)
+
+returns-3 : tie.Need-returns-3
+returns-3 c = let e = c .before .before .empty .ensures in c .sets-within3 .ensures ∙ places-valid _ _ _ _ (c .before .match .keys3) refl refl refl (e) (e)
+
+returns-4 : tie.Need-returns-4
+returns-4 c = let e = c .before .before .empty .ensures in c .sets-within4 .ensures ∙ places-valid _ _ _ _ (c .before .match .keys4) refl refl refl refl (e)
+
+returns-5 : tie.Need-returns-5
+returns-5 c = let e = c .before .before .empty .ensures in c .sets-within5 .ensures ∙ places-valid _ _ _ _ (c .before .match .keys5) refl refl refl refl refl
+
+returns-6 : tie.Need-returns-6
 unfolding policiesValid
-returns-2 c =
-    let l = c .before .before .before .before .before in
-    let s = l .before .before .before .args in
-    simp (all-fails 4 (placed (s .policies .now) (s .c) (s .count) (s .known)) (l .loop .k) (c .before .before .before .before .loop-test .taken) (sym (tested (c .before)) ∙ not-true _ (c .if3 .taken)), and-false)
-
-add-k : tie.Need-add-k Inv-loop μ-loop
-add-k c = search needs
-
-loop-less : tie.Need-loop-less Inv-loop μ-loop
-loop-less c = search needs
-
-loop-again : tie.Need-loop-again Inv-loop μ-loop
-loop-again c =
-    let l = c .before .before .before .before .before in
-    (omega arith, below-more _ _ (l .loop .inv .1) (sym (tested (c .before)) ∙ not-false _ (c .if3 .left)))
-
-returns-3 : tie.Need-returns-3 Inv-loop μ-loop
-unfolding policiesValid
-returns-3 c =
-    let s = c .before .before .before .before .args in
-    sym (both-and (le-leb _ _ (c .before .before .if1 .left)) (all-make 4 (placed (s .policies .now) (s .c) (s .count) (s .known)) (λ j l. c .before .loop .inv .1 j (omega (arith, l)))))
+returns-6 c =
+    let count = c .before .before .before .args .count in
+    let r = c .match .rest in
+    simp (lt-leb count 4 (next 4 (next 3 (next 2 (next 1 (next 0 (omega arith) (r .0 .0 .0 .0 .1)) (r .0 .0 .0 .1)) (r .0 .0 .1)) (r .0 .1)) (r .1)))
 
 pub policies-valid-spec : {M : Type 1} → statement M
 policies-valid-spec =
     tie.close
     (tie.spec
-    Inv-loop
-    μ-loop
-    returns
-    loop-holds
-    mul-load-set
-    cast-load-set
-    add-load-set
-    load-set-requires
     empty-requires
-    is-subset-requires
+    sets-within-requires
+    sets-within-requires-2
+    sets-within-requires-3
+    sets-within-requires-4
+    sets-within-requires-5
+    returns
     returns-2
-    add-k
-    loop-less
-    loop-again
-    returns-3)
+    returns-3
+    returns-4
+    returns-5
+    returns-6)
