@@ -1,70 +1,33 @@
 -- Laws of decimal text: its digits, what they stand for, and how many there are.
 -- Assumes nothing.
-use mathlib.Core.Path.{_≡_, refl, sym, ap, _∙_}
-use mathlib.Core.Bool.{Bool, true, false}
+use mathlib.Core.Path.{_≡_, refl, ap, _∙_}
 use mathlib.Core.Logic.{_≢_, by-cases}
 use mathlib.Core.List.{List, [], _∷_, _++_}
 use Prim.Native.Nat.{ℕ, zero, suc, _+_, _-_, _*_, _/_, _%_, _^_, _≤_, _<_}
 use native.Mathlib.Nat.{le-refl, lt-of-lt-of-le, div-lt-iff-lt-mul, pow-suc}
 use native.Mathlib.Decide.{decLt}
 use native.Mathlib.Omega.{arith}
-use lib.Dec.{ltb, lit<, lit≤}
+use lib.Dec.{lit<, lit≤}
 use lib.ListN.{length, getD, length-append, List·getD-append}
 use lib.Seq.{getD-at}
-use borrow.Author.Tests.{lt-ltb, le-ltb, ltb-true, ltb-false}
+use Rattle.leb128.specs.Base.{by-places, places-last, places-more}
 use Rattle.decimal.specs.Decimal.{digits, decimalOf, numberOf, readOn}
-
--- one step of the recursion
-module _ (d v : ℕ) where
-  -- a number below 10 ends it
-  digits-last : ltb v 10 ≡ true → digits (suc d) v ≡ (48 + v) ∷ []
-  unfolding digits
-  digits-last e = rw (e, digits)
-
-  -- any other leaves its lowest digit
-  digits-more : ltb v 10 ≡ false → digits (suc d) v ≡ digits d (v / 10) ++ ((48 + v % 10) ∷ [])
-  unfolding digits
-  digits-more e = rw (e, digits)
-
--- a larger bound changes nothing
-digits-enough : (d e v : ℕ) → v ≤ d → v ≤ e → digits d v ≡ digits e v
-unfolding digits
-digits-enough zero zero v hd he = refl
-digits-enough zero (suc e) v hd he = sym (digits-last e v (lt-ltb v 10 (omega arith)))
-digits-enough (suc d) zero v hd he = digits-last d v (lt-ltb v 10 (omega arith))
-digits-enough (suc d) (suc e) v hd he = go (ltb v 10) refl (digits-enough d e (v / 10))
-  where
-    go : (t : Bool) → ltb v 10 ≡ t → (v / 10 ≤ d → v / 10 ≤ e → digits d (v / 10) ≡ digits e (v / 10)) → digits (suc d) v ≡ digits (suc e) v
-    go true p ih = digits-last d v p ∙ sym (digits-last e v p)
-    go false p ih =
-        let h : 10 ≤ v = ltb-false v 10 p in
-        digits-more d v p ∙ ap (λ (ds : List ℕ). ds ++ ((48 + v % 10) ∷ [])) (ih (omega arith) (omega arith)) ∙ sym (digits-more e v p)
 
 -- a number below 10 is one digit
 pub decimal-last : (v : ℕ) → v < 10 → decimalOf v ≡ (48 + v) ∷ []
 unfolding decimalOf digits
-decimal-last zero h = refl
-decimal-last (suc v) h = digits-last v (suc v) (lt-ltb (suc v) 10 h)
+decimal-last =
+    places-last 10 (lit< tt) (λ v. (48 + v) ∷ []) (λ v ds. ds ++ ((48 + v % 10) ∷ [])) digits (λ v. refl) (λ d v e. rw (e, digits)) (λ d v e. rw (e, digits))
 
 -- any other is the digits of the number without its lowest digit, and then that digit
 pub decimal-more : (v : ℕ) → 10 ≤ v → decimalOf v ≡ decimalOf (v / 10) ++ ((48 + v % 10) ∷ [])
-unfolding decimalOf
-decimal-more zero h = absurd (omega arith)
-decimal-more (suc v) h =
-    digits-more v (suc v) (le-ltb (suc v) 10 h)
-    ∙ ap (λ (ds : List ℕ). ds ++ ((48 + suc v % 10) ∷ [])) (digits-enough v (suc v / 10) (suc v / 10) (omega arith) (le-refl (suc v / 10)))
+unfolding decimalOf digits
+decimal-more =
+    places-more 10 (lit< tt) (λ v. (48 + v) ∷ []) (λ v ds. ds ++ ((48 + v % 10) ∷ [])) digits (λ v. refl) (λ d v e. rw (e, digits)) (λ d v e. rw (e, digits))
 
 -- what holds of a number below 10, and of any other where it holds of the number without its lowest digit, holds of all
 pub by-digits {ℓ} : (P : ℕ → Type ℓ) → ((v : ℕ) → v < 10 → P v) → ((v : ℕ) → 10 ≤ v → P (v / 10) → P v) → (v : ℕ) → P v
-by-digits P last more v = go v v (le-refl v)
-  where
-    pick : (d v : ℕ) → v ≤ suc d → (v / 10 ≤ d → P (v / 10)) → (t : Bool) → ltb v 10 ≡ t → P v
-    pick d v h ih true e = last v (ltb-true v 10 e)
-    pick d v h ih false e = let g : 10 ≤ v = ltb-false v 10 e in more v g (ih (omega arith))
-
-    go : (d v : ℕ) → v ≤ d → P v
-    go zero v h = last v (omega arith)
-    go (suc d) v h = pick d v h (go d (v / 10)) (ltb v 10) refl
+by-digits = by-places 10 (lit< tt)
 
 -- how many digits there are where there are several
 pub decimal-length : (v : ℕ) → 10 ≤ v → length (decimalOf v) ≡ length (decimalOf (v / 10)) + 1

@@ -1,5 +1,6 @@
 pub mod Answer
 pub mod Number
+pub mod Base
 pub mod Form
 pub mod Scan
 pub mod ScanForm
