@@ -15,7 +15,7 @@ use mir.Syntax.{w64}
 use mir.Val.{Fits}
 use borrow.Author.Tests.{eqb-true, eq-eqb}
 use Rattle.tagset.specs.declared.TagSet.{TagSet}
-use Rattle.truth.specs.Truth.{iff, and-both}
+use Rattle.truth.specs.Truth.{iff, and-both, both-and}
 use Rattle.tagset.specs.Below.{all-at, all-make}
 use Rattle.tagset.specs.Bit.{bit-and, bits-ext}
 use Rattle.tagset.specs.Set.{allBelow, bitAt, wordAt, hasW, has, singleOf, lowOnes, belowOf, wordwise, implies, subsetOf, sameOf, IsWords}
@@ -117,10 +117,7 @@ module _ (r : Bool → Bool → Bool) (d : ℕ → ℕ → Bool) (T : Tests r d)
       tests-pass (o .0) (o .1) (q .1) (p .1))
     where
       all-four : word-test 0 ≡ true → word-test 1 ≡ true → word-test 2 ≡ true → word-test 3 ≡ true → word-test 0 && word-test 1 && word-test 2 && word-test 3 ≡ true
-      all-four h0 h1 h2 h3 = both (both (both h0 h1) h2) h3
-        where
-          both : {x y : Bool} → x ≡ true → y ≡ true → x && y ≡ true
-          both p q = ap₂ (λ (x y : Bool). x && y) p q
+      all-four h0 h1 h2 h3 = both-and (both-and (both-and h0 h1) h2) h3
 
 -- a word has no bit that the other lacks
 abbrev pub within : ℕ → ℕ → Bool
