@@ -1,6 +1,6 @@
 -- What a call leaves alone: storage past the lengths in use, lengths, n, 64 bits; and its gain counted from the sets. Assumes nothing.
 use mathlib.Core.Path.{_≡_, refl, sym, ap, _∙_, subst}
-use mathlib.Core.Bool.{Bool, true, false, _&&_, not}
+use mathlib.Core.Bool.{true, _&&_, not, and-not-self}
 use mathlib.Core.List.{List, [], _∷_, _++_}
 use mathlib.Mathlib.Logic.Relation.{ReflTransGenᴰ·refl}
 use Prim.Native.Nat.{ℕ, zero, suc, _+_, _*_, _≤_, _<_}
@@ -196,11 +196,7 @@ gain-same : (n : ℕ) (ws : List ℕ) → gainOf n ws ws ≡ 0
 unfolding gainOf
 gain-same zero ws = refl
 gain-same (suc n) ws =
-    omega (arith, count-none 256 (λ t. has (setAt ws n) t && not (has (setAt ws n) t)) (λ t l. never (has (setAt ws n) t)), gain-same n ws)
-  where
-    never : (b : Bool) → b && not b ≡ false
-    never true = refl
-    never false = refl
+    omega (arith, count-none 256 (λ t. has (setAt ws n) t && not (has (setAt ws n) t)) (λ t l. and-not-self (has (setAt ws n) t)), gain-same n ws)
 
 -- a gain that is counted from the sets is so in the outcome too
 decided-gain : (r : ℕ) (s : State) (gain : ℕ) (s' : State) → gain ≡ gainOf (s .header .containers) (s .storage .tags) (s' .storage .tags)
