@@ -172,7 +172,6 @@ pub fn apply_enable(header: Header, tags: &mut [u64], flows: [Flow; 512], flow: 
     let used = header.count;
     let count = used + 1;
     let first = used as usize;
-    let end = first + 1;
     let table = flowtable::append(flows, used, flow);
     let made = propagation::propagate(tags, header.containers, table, count);
     Change {
@@ -185,7 +184,7 @@ pub fn apply_enable(header: Header, tags: &mut [u64], flows: [Flow; 512], flow: 
             },
         },
         first: first,
-        end: end,
+        end: first + 1,
         flows: table,
     }
 }

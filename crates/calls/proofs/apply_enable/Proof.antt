@@ -100,14 +100,14 @@ add-count c = search needs
 cast-first : tie.Need-cast-first
 cast-first c = search needs
 
-add-end : tie.Need-add-end
-add-end c = search needs
-
 append-requires : tie.Need-append-requires
 append-requires c κs = search needs
 
 propagate-requires : tie.Need-propagate-requires
 propagate-requires c κs = search needs
+
+add-t21 : tie.Need-add-t21
+add-t21 c = search needs
 
 same-length : tie.Need-same-length
 same-length c = search needs
@@ -145,8 +145,8 @@ apply-enable-spec =
     returns-5
     add-count
     cast-first
-    add-end
     append-requires
     propagate-requires
+    add-t21
     same-length
     returns-6)
