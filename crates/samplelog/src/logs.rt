@@ -4,7 +4,6 @@ use eventlog::Head;
 use eventlog::Record;
 use sampleline::Numbers;
 use sampleline::print::named;
-use sampleline::print::refused;
 use sampleline::print::text;
 use sampleline::print::written;
 
