@@ -12,41 +12,7 @@ Inv-loop now₀ tags₀ policies counts k₀ now tags k = (k ≤ 10512) × (leng
 abbrev μ-loop : tie.MeasureT-loop
 μ-loop now₀ tags₀ policies counts k₀ now tags k = 10512 - k
 
-loop-holds : tie.Need-loop-holds Inv-loop μ-loop
-loop-holds c = search needs
-
-enable-requires : tie.Need-enable-requires Inv-loop μ-loop
-enable-requires c κs = search needs
-
-disable-requires : tie.Need-disable-requires Inv-loop μ-loop
-disable-requires c κs = search needs
-
-add-k : tie.Need-add-k Inv-loop μ-loop
-add-k c = search needs
-
-loop-less : tie.Need-loop-less Inv-loop μ-loop
-loop-less c = search needs
-
-loop-again : tie.Need-loop-again Inv-loop μ-loop
-loop-again c = search needs
-
-same-length : tie.Need-same-length Inv-loop μ-loop
-same-length c = search needs
-
-returns : tie.Need-returns Inv-loop μ-loop
-returns c = search needs
-
 pub turn-over-spec : {M : Type 1} → statement M
 turn-over-spec =
-    tie.close
-    (tie.spec
-    Inv-loop
-    μ-loop
-    loop-holds
-    enable-requires
-    disable-requires
-    add-k
-    loop-less
-    loop-again
-    same-length
-    returns)
+    tie.close (tie.spec Inv-loop μ-loop (λ c. search needs) (λ c κs. search needs) (λ c κs. search needs) (λ c. search needs)
+    (λ c. search needs) (λ c. search needs) (λ c. search needs) (λ c. search needs))

@@ -12,57 +12,8 @@ Inv-loop log₀ at₀ k₀ log at k = (k ≤ 2080) × (length log ≡ length log
 abbrev μ-loop : tie.MeasureT-loop
 μ-loop log₀ at₀ k₀ log at k = 2080 - k
 
-put-head-requires : tie.Need-put-head-requires Inv-loop μ-loop
-put-head-requires c κs = search needs
-
-loop-holds : tie.Need-loop-holds Inv-loop μ-loop
-loop-holds c = search needs
-
-enable-requires : tie.Need-enable-requires Inv-loop μ-loop
-enable-requires c κs = search needs
-
-put-requires : tie.Need-put-requires Inv-loop μ-loop
-put-requires c κs = search needs
-
-put-requires-2 : tie.Need-put-requires-2 Inv-loop μ-loop
-put-requires-2 c κs = search needs
-
-add-k : tie.Need-add-k Inv-loop μ-loop
-add-k c = search needs
-
-loop-less : tie.Need-loop-less Inv-loop μ-loop
-loop-less c = search needs
-
-loop-again : tie.Need-loop-again Inv-loop μ-loop
-loop-again c = search needs
-
-enable-requires-2 : tie.Need-enable-requires-2 Inv-loop μ-loop
-enable-requires-2 c κs = search needs
-
-put-requires-3 : tie.Need-put-requires-3 Inv-loop μ-loop
-put-requires-3 c κs = search needs
-
-same-length : tie.Need-same-length Inv-loop μ-loop
-same-length c = search needs
-
-returns : tie.Need-returns Inv-loop μ-loop
-returns c = search needs
-
 pub put-turns-spec : {M : Type 1} → statement M
 put-turns-spec =
-    tie.close
-    (tie.spec
-    Inv-loop
-    μ-loop
-    put-head-requires
-    loop-holds
-    enable-requires
-    put-requires
-    put-requires-2
-    add-k
-    loop-less
-    loop-again
-    enable-requires-2
-    put-requires-3
-    same-length
-    returns)
+    tie.close (tie.spec Inv-loop μ-loop (λ c κs. search needs) (λ c. search needs) (λ c κs. search needs) (λ c κs. search needs)
+    (λ c κs. search needs) (λ c. search needs) (λ c. search needs) (λ c. search needs) (λ c κs. search needs) (λ c κs. search needs)
+    (λ c. search needs) (λ c. search needs))
