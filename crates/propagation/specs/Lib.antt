@@ -1,4 +1,5 @@
 pub mod Pass
 pub mod Bench
 pub mod Exact
+pub mod Found
 pub mod Turns

@@ -1,8 +1,8 @@
 -- What the functions of propagation need: sets copied one word more, an edge that changes nothing, edges carried flow by flow, one pass made after the others.
 -- Assumes nothing.
 use mathlib.Core.Path.{_≡_, refl, sym, ap, ap₂, _∙_, subst}
-use mathlib.Core.Bool.{true, false≢true}
-use mathlib.Core.Logic.{_⊎_, ⊎-elim, by-cases}
+use mathlib.Core.Bool.{Bool, true, false, _&&_, not, cond, false≢true}
+use mathlib.Core.Logic.{_⊎_, ⊎-elim, by-cases, _≢_}
 use mathlib.Core.List.{List, [], _∷_, _++_, append-assoc, append-nil}
 use Prim.Native.Nat.{ℕ, zero, suc, _+_, _*_, _≤_, _<_}
 use native.Mathlib.Nat.{zero-add, not-suc-le-zero, le-of-suc-le-suc}
@@ -12,17 +12,19 @@ use native.Mathlib.Omega.{arith}
 use lib.Dec.{ltb}
 use lib.ListN.{length, getD, set, take, drop, List·getD-append}
 use lib.Seq.{getD-take, length-take-le, paste-suc}
-use borrow.Author.Tests.{lt-ltb, le-ltb}
+use borrow.Author.Tests.{lt-ltb, le-ltb, not-false}
 use borrow.Table.Steps.{cases}
 use Rattle.model.specs.declared.Flow.{Flow}
 use Rattle.model.specs.Model.{edges, edgesOf}
-use Rattle.tagset.specs.Set.{subsetOf, sizeOf}
-use Rattle.tagset.specs.Laws.{union-absorbs}
+use Rattle.tagset.specs.Below.{none-counted}
+use Rattle.tagset.specs.Set.{countBelow, has, unionOf, subsetOf, sizeOf}
+use Rattle.tagset.specs.Laws.{has-lt, subset-of-has, union-absorbs}
 use Rattle.state.specs.State.{setAt}
 use Rattle.state.specs.Layout.{Fit64, set-fits}
 use Rattle.tagstore.specs.Store.{putSet}
-use Rattle.tagstore.specs.Laws.{set-cong, put-same, total-le}
+use Rattle.tagstore.specs.Laws.{set-cong, put-same, put-other-set, total-le}
 use Rattle.propagation.specs.Pass.{inside, carried, newTags, carriedAll, newInAll, pass, passed, newInPasses, adds, passesOf}
+use Rattle.propagation.specs.Found.{Found, found-more}
 use Rattle.propagation.specs.Exact.{inside-iff, edge-inside, edge-outside, new-total, passed-length, passed-suc, adds-new, passes-total, passes-some, passes-add, passes-last}
 
 -- COPYING
@@ -41,7 +43,7 @@ copied-at m s d i z hs h =
     List·getD-append (take m s) (drop m d) z i (omega (arith, length-take-le m s hs)) ∙ getD-take m s i z h
 
 -- so each set of n copied sets is that of the words copied
-copied-set : (n : ℕ) (ws vs : List ℕ) (k : ℕ) → 4 * n ≤ length ws → k < n → setAt (take (4 * n) ws ++ drop (4 * n) vs) k ≡ setAt ws k
+pub copied-set : (n : ℕ) (ws vs : List ℕ) (k : ℕ) → 4 * n ≤ length ws → k < n → setAt (take (4 * n) ws ++ drop (4 * n) vs) k ≡ setAt ws k
 copied-set n ws vs k hw h = set-cong (take (4 * n) ws ++ drop (4 * n) vs) ws k (λ i l. copied-at (4 * n) ws vs i 0 hw (omega arith))
 
 -- ONE EDGE
@@ -59,6 +61,29 @@ edge-same n found e ws q ff fw part =
     let same = union-absorbs (setAt ws (e .1)) (setAt found (e .0)) (set-fits ws (e .1) fw) (set-fits found (e .0) ff) part in
     let put = edge-inside n found e ws q in
     (sym (put .0 ∙ ap (putSet ws (e .1)) same ∙ put-same ws (e .1)), omega (arith, put .1, ap sizeOf same))
+
+-- one that adds no tag changes nothing
+pub edge-none : (n : ℕ) (found : List ℕ) (e : ℕ × ℕ) (ws : List ℕ) → Fit64 found → Fit64 ws → newTags n found e ws ≡ 0 → carried n found e ws ≡ ws
+unfolding newTags
+edge-none n found e ws ff fw z =
+    cases (inside n e) (λ q. sym (edge-same n found e ws q ff fw (subset-of-has (setAt found (e .0)) (setAt ws (e .1)) (λ t h. there t h (none q t h))) .0))
+    (λ q. edge-outside n found e ws q .0)
+  where
+    -- a tag of the source that the destination lacks
+    lacks : ℕ → Bool
+    lacks t = has (setAt found (e .0)) t && not (has (setAt ws (e .1)) t)
+
+    none : inside n e ≡ true → (t : ℕ) → has (setAt found (e .0)) t ≡ true → lacks t ≡ false
+    none q t h = none-counted 256 lacks (sym (ap (λ (b : Bool). cond b (countBelow 256 lacks) 0) q) ∙ z) t (has-lt (setAt found (e .0)) t h)
+
+    there : (t : ℕ) → has (setAt found (e .0)) t ≡ true → lacks t ≡ false → has (setAt ws (e .1)) t ≡ true
+    there t h l = not-false (has (setAt ws (e .1)) t) (sym (ap (λ (b : Bool). b && not (has (setAt ws (e .1)) t)) h) ∙ l)
+
+-- and every edge leaves the sets of containers other than its destination
+edge-other : (n : ℕ) (found : List ℕ) (e : ℕ × ℕ) (ws : List ℕ) (a : ℕ) → a ≢ e .1 → setAt (carried n found e ws) a ≡ setAt ws a
+unfolding carried
+edge-other n found e ws a h =
+    cases (inside n e) (λ q. rw q (put-other-set ws (e .1) (unionOf (setAt ws (e .1)) (setAt found (e .0))) a h)) (λ q. rw q)
 
 -- EDGES
 
@@ -113,17 +138,23 @@ edges-more fs k d h = ap (λ (j : ℕ). edgesOf (take j fs)) (add-one k) ∙ mor
     more (f ∷ fs) (suc k) h =
         ap (λ (es : List (ℕ × ℕ)). edges f ++ es) (more fs k (le-of-suc-le-suc h)) ∙ sym (append-assoc (edges f) (edgesOf (take k fs)) (edges (getD fs k d)))
 
--- carried along the edges of k flows from a copy of the sets that the pass began with, and then along those of one flow more
-pub flow-carried : {n : ℕ} {ws₀ found ws ws′ : List ℕ} (old : List ℕ) (fs : List Flow) (k : ℕ) (d : Flow) {added new : ℕ} → k < length fs → 4 * n ≤ length ws₀
-    → found ≡ take (4 * n) ws₀ ++ drop (4 * n) old → Carried n ws₀ (edgesOf (take k fs)) ws₀ ws added → Carried n found (edges (getD fs k d)) ws ws′ new
+-- carried along the edges of k flows from the sets that the pass began with, and then along those of one flow more
+pub flow-carried : {n : ℕ} {ws₀ found ws ws′ : List ℕ} (fs : List Flow) (k : ℕ) (d : Flow) {added new : ℕ} → k < length fs
+    → ((a : ℕ) → a < n → setAt found a ≡ setAt ws₀ a) → Carried n ws₀ (edgesOf (take k fs)) ws₀ ws added → Carried n found (edges (getD fs k d)) ws ws′ new
     → Carried n ws₀ (edgesOf (take (k + 1) fs)) ws₀ ws′ (added + new)
-flow-carried {n} {ws₀} {found} {ws} old fs k d h l copy before more =
+flow-carried {n} {ws₀} {found} {ws} fs k d h copy before more =
     let on = carried-on n ws₀ (edgesOf (take k fs)) (edges (getD fs k d)) ws₀ in
-    let same =
-    found-cong n found ws₀ (λ j g. ap (λ (x : List ℕ). setAt x j) copy ∙ copied-set n ws₀ old j l g) (edges (getD fs k d)) ws in record {
+    let same = found-cong n found ws₀ copy (edges (getD fs k d)) ws in record {
       sets = rw (edges-more fs k d h, on .0, ← before .sets) (more .sets ∙ same .0);
       count = rw (edges-more fs k d h, on .1, ← before .sets) (omega (arith, same .1));
     }
+
+-- where a flow adds tags its destination is listed
+pub found-listed : {n m : ℕ} {changed found ws ws′ : List ℕ} (f : Flow) {new : ℕ} → m < length changed → Carried n found (edges f) ws ws′ new
+    → Found n changed 0 m found ws → Found n (set changed m (f .to)) 0 (m + 1) found ws′
+unfolding carriedAll
+found-listed {n} {m} {changed} {found} {ws} f r made now =
+    found-more (f .to) r now (λ a h. ap (λ (l : List ℕ). setAt l a) (made .sets) ∙ edge-other n found (f .from, f .to) ws a h)
 
 -- THE PASSES
 

@@ -2,9 +2,10 @@
 use model::Flow;
 ghost use mathlib.Core.Path.{_≡_};
 ghost use mathlib.Core.List.{_++_};
-ghost use Prim.Native.Nat.{_*_, _≤_};
+ghost use Prim.Native.Nat.{ℕ, _*_, _≤_};
 ghost use lib.ListN.{length, take, drop};
 ghost use Rattle.model.specs.Model.{edges, edgesOf};
+ghost use Rattle.propagation.specs.Found.{Found};
 ghost use Rattle.propagation.specs.Pass.{carried, newTags, carriedAll, newInAll, passed, newInPasses, passesOf, passCount, setsAfter, pairsAdded};
 
 // The (tag, container) pairs that propagation added, and how many passes it made, the last included.
@@ -27,7 +28,8 @@ pub fn propagate(tags: &mut [u64], containers: u32, flows: [Flow; 512], count: u
     make_passes(tags, n, flows, last)
 }
 
-// Passes over the flows, up to the first that adds nothing. Within a pass each flow reads the sets as the pass found them.
+// Passes over the flows, up to the first that adds nothing. Within a pass each flow reads the sets as the pass found them: a copy, in which the sets that
+// a pass changed are copied again after it.
 fn make_passes(tags: &mut [u64], n: u32, flows: [Flow; 512], count: u32) -> Propagated
     requires { ⌜ (n ≤ 256) × (4 * n ≤ length (now tags)) × (count ≤ 512) ⌝ }
     ensures sets { λ r. ⌜ now (tags .exit) ≡ passed (passesOf n (edgesOf (take count flows)) (now (tags .entry))) n (edgesOf (take count flows)) (now (tags .entry)) ⌝ }
@@ -35,15 +37,22 @@ fn make_passes(tags: &mut [u64], n: u32, flows: [Flow; 512], count: u32) -> Prop
     ensures gain { λ r. ⌜ r .gain ≡ newInPasses (passesOf n (edgesOf (take count flows)) (now (tags .entry))) n (edgesOf (take count flows)) (now (tags .entry)) ⌝ }
 {
     let mut found = [0u64; 1024];
+    copy_sets(tags, &mut found, n);
+    let mut changed = [0u32; 512];
     let mut gain: u32 = 0;
     let mut passes: u32 = 0;
     'passes: loop {
-        copy_sets(tags, &mut found, n);
         let mut added: u32 = 0;
+        let mut changes: usize = 0;
         let mut k: usize = 0;
         while k < count as usize {
             let f = flows[k];
-            added += carry_flow(&found, tags, n, f);
+            let new = carry_flow(&found, tags, n, f);
+            if new != 0 {
+                changed[changes] = f.to;
+                changes += 1;
+                added += new;
+            }
             k += 1;
         }
         passes += 1;
@@ -51,6 +60,7 @@ fn make_passes(tags: &mut [u64], n: u32, flows: [Flow; 512], count: u32) -> Prop
         if added == 0 {
             break 'passes;
         }
+        copy_changed(tags, &mut found, &changed, changes);
     }
     Propagated { gain, passes }
 }
@@ -60,6 +70,7 @@ fn carry_flow(found: &[u64], tags: &mut [u64], n: u32, f: Flow) -> u32
     requires { ⌜ (4 * n ≤ length (now found)) × (4 * n ≤ length (now tags)) ⌝ }
     ensures sets { λ r. ⌜ now (tags .exit) ≡ carriedAll n (now (found .entry)) (edges f) (now (tags .entry)) ⌝ }
     ensures gain { λ r. ⌜ r ≡ newInAll n (now (found .entry)) (edges f) (now (tags .entry)) ⌝ }
+    ensures none { λ r. ⌜ (r ≡ 0 → now (tags .exit) ≡ now (tags .entry)) ⌝ }
 {
     carry(found, tags, n, f.from, f.to)
 }
@@ -69,6 +80,7 @@ fn carry(found: &[u64], tags: &mut [u64], n: u32, a: u32, b: u32) -> u32
     requires { ⌜ (4 * n ≤ length (now found)) × (4 * n ≤ length (now tags)) ⌝ }
     ensures sets { λ r. ⌜ now (tags .exit) ≡ carried n (now (found .entry)) (a, b) (now (tags .entry)) ⌝ }
     ensures gain { λ r. ⌜ r ≡ newTags n (now (found .entry)) (a, b) (now (tags .entry)) ⌝ }
+    ensures none { λ r. ⌜ (r ≡ 0 → now (tags .exit) ≡ now (tags .entry)) ⌝ }
 {
     if n <= a {
         return 0;
@@ -97,5 +109,19 @@ fn copy_sets(tags: &[u64], found: &mut [u64], n: u32)
     while i < end {
         found[i] = tags[i];
         i += 1;
+    }
+}
+
+// Copies the sets of the first m containers of the list again.
+fn copy_changed(tags: &[u64], found: &mut [u64], changed: &[u32], m: usize)
+    requires { ⌜ m ≤ length (now changed) ⌝ }
+    ensures length { λ r. ⌜ length (now (found .exit)) ≡ length (now (found .entry)) ⌝ }
+    ensures copied { λ r. ⌜ ((n : ℕ) → 4 * n ≤ length (now (tags .entry)) → 4 * n ≤ length (now (found .entry)) → Found n (now (changed .entry)) 0 m (now (found .entry)) (now (tags .entry)) → Found n (now (changed .entry)) m m (now (found .exit)) (now (tags .entry))) ⌝ }
+{
+    let mut j: usize = 0;
+    while j < m {
+        let c = changed[j] as usize;
+        tagstore::store_set(found, c, tagstore::load_set(tags, c));
+        j += 1;
     }
 }

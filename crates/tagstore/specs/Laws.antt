@@ -82,6 +82,11 @@ module _ (ws : List ℕ) (k : ℕ) (s : TagSet) (h : 4 * k + 4 ≤ length ws) wh
       ap (λ (w : ℕ). bitAt w (t % 64))
       (each-word (λ q. wordAt (setAt (putSet ws k s) k .words) q ≡ wordAt (s .words) q) put-0 put-1 put-2 put-3 (λ q. refl) (t / 64))
 
+  -- and is the set of the words that it was given
+  pub put-words : setAt (putSet ws k s) k ≡ record { words = word s 0 ∷ word s 1 ∷ word s 2 ∷ word s 3 ∷ [] }
+  unfolding setAt
+  put-words = λ i. record { words = put-0 i ∷ put-1 i ∷ put-2 i ∷ put-3 i ∷ [] }
+
 -- the other sets are as they were
 pub put-other-set : (ws : List ℕ) (k : ℕ) (s : TagSet) (j : ℕ) → j ≢ k → setAt (putSet ws k s) j ≡ setAt ws j
 unfolding setAt

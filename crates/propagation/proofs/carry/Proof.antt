@@ -1,18 +1,20 @@
 -- `carry` meets its contract: the set that it puts is the union of those that it reads, by the laws of one edge. Assumes nothing.
 use mathlib.Core.Path.{_≡_, sym, ap, ap₂, _∙_}
 use mathlib.Core.Bool.{true}
+use mathlib.Core.List.{List}
 use mathlib.Core.Logic.{inl, inr}
 use Prim.Native.Nat.{ℕ, _+_}
 use native.Mathlib.Omega.{arith}
 use borrow.Author.Needs.{needs}
 use Rattle.tagset.specs.declared.TagSet.{TagSet}
 use Rattle.tagset.specs.Set.{unionOf, subsetOf, sizeOf}
+use Rattle.state.specs.Layout.{Fit64}
 use Rattle.state.specs.State.{setAt}
 use Rattle.tagstore.specs.Store.{putSet}
 use Rattle.tagstore.specs.Laws.{load-whole, store-whole}
-use Rattle.propagation.specs.Pass.{inside, newTags}
+use Rattle.propagation.specs.Pass.{inside, carried, newTags}
 use Rattle.propagation.specs.Exact.{inside-iff, edge-inside}
-use Rattle.propagation.specs.Turns.{edge-past, edge-same}
+use Rattle.propagation.specs.Turns.{edge-past, edge-same, edge-none}
 use Rattle.propagation.proofs.carry.Statement.{statement}
 use Rattle.propagation.proofs.carry.Tie as tie
 
@@ -58,11 +60,23 @@ sizes c =
     let put = edge-inside (start .args .n) (start .args .found .now) (Edge start) (start .args .tags .now) (within inside) in
     omega (arith, c .before .size .ensures, c .size2 .ensures, ap sizeOf (new-is union), ap sizeOf (old-is load), put .1)
 
+-- the two facts of an edge, and that the words stay where it adds no tag
+all : (c : tie.Start) → Fit64 (c .args .found .now) → Fit64 (c .args .tags .now) → {ws : List ℕ} {r : ℕ}
+    → (ws ≡ carried (c .args .n) (c .args .found .now) (Edge c) (c .args .tags .now)) × (r ≡ Gain c)
+    → (ws ≡ carried (c .args .n) (c .args .found .now) (Edge c) (c .args .tags .now)) × ((r ≡ Gain c) × (r ≡ 0 → ws ≡ c .args .tags .now))
+all c ff fw (sets, gain) = (sets, (gain, λ z. sets ∙ edge-none (c .args .n) (c .args .found .now) (Edge c) (c .args .tags .now) ff fw (sym gain ∙ z)))
+
 returns : tie.Need-returns
-returns c = edge-past _ _ (Edge (c .before .before .before)) _ (inl (c .if1 .taken))
+returns c =
+    let known = c .before in
+    all (known .before .before) (λ i. known .before .shared-slice-known .given i .fits) (λ i. known .slice-known .given i .fits)
+    (edge-past _ _ (Edge (known .before .before)) _ (inl (c .if1 .taken)))
 
 returns-2 : tie.Need-returns-2
-returns-2 c = edge-past _ _ (Edge (c .before .before .before .before)) _ (inr (c .if2 .taken))
+returns-2 c =
+    let known = c .before .before in
+    all (known .before .before) (λ i. known .before .shared-slice-known .given i .fits) (λ i. known .slice-known .given i .fits)
+    (edge-past _ _ (Edge (known .before .before)) _ (inr (c .if2 .taken)))
 
 load-set-requires : tie.Need-load-set-requires
 load-set-requires c κs = search needs
@@ -82,8 +96,9 @@ returns-3 c =
     let load = source .before in
     let inside = load .before .before in
     let known = inside .before .before in
-    edge-same _ _ (Edge (known .before .before)) _ (within inside) (λ i. known .before .shared-slice-known .given i .fits)
-    (λ i. known .slice-known .given i .fits) (sym (ap₂ subsetOf (source-is source) (old-is load)) ∙ sym (c .before .is-subset .ensures) ∙ c .if3 .taken)
+    all (known .before .before) (λ i. known .before .shared-slice-known .given i .fits) (λ i. known .slice-known .given i .fits)
+    (edge-same _ _ (Edge (known .before .before)) _ (within inside) (λ i. known .before .shared-slice-known .given i .fits)
+    (λ i. known .slice-known .given i .fits) (sym (ap₂ subsetOf (source-is source) (old-is load)) ∙ sym (c .before .is-subset .ensures) ∙ c .if3 .taken))
 
 union-requires : tie.Need-union-requires
 union-requires c κs = search needs
@@ -107,8 +122,10 @@ returns-4 : tie.Need-returns-4
 returns-4 c =
     let union = c .before .before .before .before .before .before in
     let inside = union .before .before .before .before .before .before in
-    let start = inside .before .before .before .before in
-    let tags = start .args .tags .now in (
+    let known = inside .before .before in
+    let start = known .before .before in
+    let tags = start .args .tags .now in
+    all start (λ i. known .before .shared-slice-known .given i .fits) (λ i. known .slice-known .given i .fits) (
       c .before .before .before .before .store-set .ensures ∙ store-whole _ _ _ (omega arith) ∙ ap (putSet tags (start .args .b)) (new-is union)
           ∙ sym (edge-inside _ _ (Edge start) tags (within inside) .0),
       omega (arith, sizes c),

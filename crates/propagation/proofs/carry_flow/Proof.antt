@@ -13,7 +13,9 @@ same-length c = search needs
 
 returns : tie.Need-returns
 unfolding carriedAll newInAll
-returns c = (c .before .before .carry .ensures .0, omega (arith, c .before .before .carry .ensures .1))
+returns c =
+    let carry = c .before .before .carry .ensures in
+    (carry .0, (omega (arith, carry .1 .0), carry .1 .1))
 
 pub carry-flow-spec : {M : Type 1} → statement M
 carry-flow-spec = tie.close (tie.spec carry-requires same-length returns)
