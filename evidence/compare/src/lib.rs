@@ -1,0 +1,15 @@
+//! Compares two implementations of the tracker on many inputs, and shows with wrong implementations that the comparison can fail.
+#![forbid(unsafe_code)]
+
+pub mod breaks;
+pub mod cases;
+pub mod clauses;
+pub mod compare;
+pub mod counts;
+pub mod difference;
+pub mod faults;
+pub mod inputs;
+pub mod logs;
+pub mod pair;
+pub mod states;
+pub mod wrapper;

@@ -1,0 +1,421 @@
+//! The two implementations side by side: each call goes to both with the same input, and the answer and every word lent are compared after it.
+use crate::counts::{Call, Class, Counts};
+use crate::difference::{first_place, short_bytes, Account, Difference};
+use crate::inputs::TABLE;
+use interface::{Answer, Event, Flow, Header, Implementation, Lent, Replayed};
+use std::cell::Cell;
+use std::fmt::Debug;
+
+/// What a comparison gives: the answer that both gave, or the difference.
+pub type Checked<T> = Result<T, Difference>;
+
+/// A tracker that is held twice, once for each implementation, and as it was before the call.
+pub struct Tracker {
+    pub header: Header,
+    pub first: Lent,
+    second: Lent,
+    before: Lent,
+}
+
+impl Tracker {
+    /// A tracker of which both implementations get the same copy.
+    pub fn new(header: Header, lent: Lent) -> Tracker {
+        Tracker { header, second: lent.clone(), before: lent.clone(), first: lent }
+    }
+
+    /// Notes the content after a call that was accepted.
+    fn keep(&mut self) {
+        self.before.tags.copy_from_slice(&self.first.tags);
+        self.before.policies.copy_from_slice(&self.first.policies);
+        self.before.counts.copy_from_slice(&self.first.counts);
+        self.before.flows.copy_from_slice(&self.first.flows);
+    }
+
+    /// The first word that differs between the two, or that a call not allowed to write has changed.
+    fn unlike(&self, kept: bool) -> Option<String> {
+        if self.first != self.second {
+            return lent_place(&self.first, &self.second);
+        }
+        if kept && self.first != self.before {
+            return lent_place(&self.before, &self.first).map(|place| format!("both wrote on refusal, {place}"));
+        }
+        None
+    }
+
+    /// The first word beyond the lengths that the paper gives for n containers, if both have written one.
+    fn beyond(&self, n: u32) -> Option<String> {
+        let n = n as usize;
+        let (a, b) = (&self.before, &self.first);
+        let place = first_place("tags beyond", tail(&a.tags, 4 * n), tail(&b.tags, 4 * n))
+            .or_else(|| first_place("policies beyond", tail(&a.policies, 16 * n), tail(&b.policies, 16 * n)))
+            .or_else(|| first_place("counts beyond", tail(&a.counts, n), tail(&b.counts, n)))
+            .or_else(|| first_place("flows beyond", tail(&a.flows, TABLE), tail(&b.flows, TABLE)));
+        place.map(|place| format!("both wrote beyond the storage, {place}"))
+    }
+}
+
+/// What lies beyond a length.
+fn tail<T>(list: &[T], length: usize) -> &[T] {
+    list.get(length..).unwrap_or(&[])
+}
+
+/// The first word at which two storages differ.
+fn lent_place(a: &Lent, b: &Lent) -> Option<String> {
+    first_place("tags", &a.tags, &b.tags)
+        .or_else(|| first_place("policies", &a.policies, &b.policies))
+        .or_else(|| first_place("counts", &a.counts, &b.counts))
+        .or_else(|| first_place("flows", &a.flows, &b.flows))
+}
+
+/// The refusal's number of an answer that is either.
+fn number_of<T>(answer: &Result<T, u32>) -> u32 {
+    match answer {
+        Ok(_) => 0,
+        Err(number) => *number,
+    }
+}
+
+/// The two implementations, what they have been seen to answer, and the case that is run.
+pub struct Pair<'a> {
+    first: &'a dyn Implementation,
+    second: &'a dyn Implementation,
+    pub counts: Counts,
+    seed: u64,
+    case: (Class, u64),
+    call: Cell<Option<Call>>,
+}
+
+impl<'a> Pair<'a> {
+    /// A pair that has seen nothing.
+    pub fn new(first: &'a dyn Implementation, second: &'a dyn Implementation, seed: u64) -> Pair<'a> {
+        Pair { first, second, counts: Counts::new(), seed, case: (Class::Numbers, 0), call: Cell::new(None) }
+    }
+
+    /// The case that is run from now on.
+    pub fn turn_to(&mut self, class: Class, case: u64) {
+        self.case = (class, case);
+    }
+
+    /// Counts an input of the present class.
+    pub fn input(&mut self) {
+        self.counts.inputs[self.case.0 as usize] += 1;
+    }
+
+    /// The account of a difference in the present case.
+    fn account(&self, call: Call, arguments: String, answers: [String; 2], place: String) -> Difference {
+        let [first, second] = answers;
+        let case = format!("{}/{}", self.case.0.name(), self.case.1);
+        Box::new(Account { call: call.name().into(), arguments, first, second, place, seed: self.seed, case, ..Account::default() })
+    }
+
+    /// The account of a case that did not come to its end: an implementation gave up in a call, or the making of the input did.
+    pub fn stopped(&self) -> Difference {
+        let answers = [String::from("(none)"), String::from("(none)")];
+        let place = match self.call.get() {
+            Some(_) => "one of the two did not come back from the call",
+            None => "outside the calls: the making of the input did not come to its end",
+        };
+        let call = self.call.get().unwrap_or(Call::Start);
+        let account = self.account(call, String::from("see the message on standard error"), answers, place.into());
+        Box::new(Account { stopped: true, ..*account })
+    }
+
+    /// Fails if the answers differ, if there is a place that differs, or if the number is none that this call may answer; counts it otherwise.
+    fn agree<T: PartialEq + Debug>(&mut self, call: Call, numbers: u32, answers: [&T; 2], place: Option<String>, arguments: &dyn Fn() -> String) -> Checked<()> {
+        self.call.set(None);
+        let shown = || answers.map(|answer| format!("{answer:?}"));
+        if answers[0] != answers[1] {
+            let place = place.unwrap_or_else(|| String::from("in the answer alone"));
+            return Err(self.account(call, arguments(), shown(), place));
+        }
+        if let Some(place) = place {
+            return Err(self.account(call, arguments(), shown(), place));
+        }
+        if !call.answers().contains(&numbers) {
+            let place = format!("both answer {numbers}, which the paper's order does not leave to this call");
+            return Err(self.account(call, arguments(), shown(), place));
+        }
+        self.counts.note(self.case.0, call, numbers);
+        Ok(())
+    }
+
+    /// Compares what an event, a starting or an adding left.
+    fn settle(&mut self, call: Call, t: &mut Tracker, n: u32, answers: [Answer; 2], arguments: &dyn Fn() -> String) -> Checked<Answer> {
+        let answer = answers[0];
+        let refused = answer.refusal != 0;
+        let back = if call == Call::Start { Header::default() } else { t.header };
+        let mut place = t.unlike(refused);
+        if place.is_none() && refused && (answer.gain != 0 || answer.header != back) {
+            place = Some(String::from("a refusal answers a gain or another header"));
+        }
+        if place.is_none() && !refused {
+            place = t.beyond(n);
+        }
+        self.agree(call, answer.refusal, [&answers[0], &answers[1]], place, arguments)?;
+        if !refused {
+            t.header = answer.header;
+            t.keep();
+        }
+        Ok(answer)
+    }
+
+    /// Starting.
+    pub fn start(&mut self, t: &mut Tracker, n: u32) -> Checked<Answer> {
+        self.call.set(Some(Call::Start));
+        let answers = [self.first.start(n, &mut t.first), self.second.start(n, &mut t.second)];
+        self.settle(Call::Start, t, n, answers, &|| format!("n {n}"))
+    }
+
+    /// Enabling a flow.
+    pub fn enable(&mut self, t: &mut Tracker, flow: Flow) -> Checked<Answer> {
+        self.call.set(Some(Call::Enable));
+        let header = t.header;
+        let answers = [self.first.enable(header, &mut t.first, flow), self.second.enable(header, &mut t.second, flow)];
+        self.settle(Call::Enable, t, header.containers, answers, &|| format!("{header:?}, {flow:?}"))
+    }
+
+    /// Disabling a flow.
+    pub fn disable(&mut self, t: &mut Tracker, number: u32) -> Checked<Answer> {
+        self.call.set(Some(Call::Disable));
+        let header = t.header;
+        let answers = [self.first.disable(header, &mut t.first, number), self.second.disable(header, &mut t.second, number)];
+        self.settle(Call::Disable, t, header.containers, answers, &|| format!("{header:?}, number {number}"))
+    }
+
+    /// Adding a policy set.
+    pub fn add_policy(&mut self, t: &mut Tracker, container: u32, policy: [u64; 4]) -> Checked<Answer> {
+        self.call.set(Some(Call::AddPolicy));
+        let header = t.header;
+        let one = self.first.add_policy(header, &mut t.first, container, policy);
+        let two = self.second.add_policy(header, &mut t.second, container, policy);
+        self.settle(Call::AddPolicy, t, header.containers, [one, two], &|| format!("{header:?}, container {container}, policy {policy:?}"))
+    }
+
+    /// Compares what a question answered.
+    fn question<T: PartialEq + Debug>(&mut self, call: Call, t: &Tracker, container: u32, answers: [Result<T, u32>; 2]) -> Checked<()> {
+        let header = t.header;
+        let number = number_of(&answers[0]);
+        self.agree(call, number, [&answers[0], &answers[1]], t.unlike(true), &|| format!("{header:?}, container {container}"))
+    }
+
+    /// The tags of a container.
+    pub fn tags_of(&mut self, t: &Tracker, container: u32) -> Checked<()> {
+        self.call.set(Some(Call::TagsOf));
+        let answers = [self.first.tags_of(t.header, &t.first, container), self.second.tags_of(t.header, &t.second, container)];
+        self.question(Call::TagsOf, t, container, answers)
+    }
+
+    /// The size of a container's tag set.
+    pub fn size_of(&mut self, t: &Tracker, container: u32) -> Checked<()> {
+        self.call.set(Some(Call::SizeOf));
+        let answers = [self.first.size_of(t.header, &t.first, container), self.second.size_of(t.header, &t.second, container)];
+        self.question(Call::SizeOf, t, container, answers)
+    }
+
+    /// Whether a container may be sent.
+    pub fn is_legal(&mut self, t: &Tracker, container: u32) -> Checked<()> {
+        self.call.set(Some(Call::IsLegal));
+        let answers = [self.first.is_legal(t.header, &t.first, container), self.second.is_legal(t.header, &t.second, container)];
+        self.question(Call::IsLegal, t, container, answers)?;
+        if let Ok(legal) = answers[0] {
+            self.counts.legal[usize::from(legal)] += 1;
+        }
+        Ok(())
+    }
+
+    /// The ranking, written into two copies of `out`.
+    pub fn rank(&mut self, t: &Tracker, out: &[u16]) -> Checked<()> {
+        self.call.set(Some(Call::Rank));
+        let mut outs = [out.to_vec(), out.to_vec()];
+        let answers = [self.first.rank(t.header, &t.first, &mut outs[0]), self.second.rank(t.header, &t.second, &mut outs[1])];
+        let written = if answers[0].is_ok() { t.header.containers as usize } else { 0 };
+        let place = first_place("out", &outs[0], &outs[1])
+            .or_else(|| t.unlike(true))
+            .or_else(|| first_place("out after the answer", &out[written.min(out.len())..], &outs[0][written.min(out.len())..]));
+        let header = t.header;
+        self.agree(Call::Rank, number_of(&answers[0]), [&answers[0], &answers[1]], place, &|| format!("{header:?}, {} places", out.len()))
+    }
+
+    /// A replay of a log in the tracker's storage.
+    pub fn replay(&mut self, t: &mut Tracker, bytes: &[u8]) -> Checked<Replayed> {
+        self.call.set(Some(Call::Replay));
+        let answers = [self.first.replay(bytes, &mut t.first), self.second.replay(bytes, &mut t.second)];
+        let answer = answers[0];
+        let begun = answer.header.containers != 0;
+        let mut place = t.unlike(!begun);
+        if place.is_none() && answers[0] == answers[1] {
+            place = if begun { t.beyond(answer.header.containers) } else { self.unbegun(answer) };
+            place = place.or_else(|| self.replay_rules(bytes, answer));
+        }
+        let lengths = [t.first.tags.len(), t.first.policies.len(), t.first.counts.len(), t.first.flows.len()];
+        let arguments = || format!("log {}, storage of lengths {lengths:?}", short_bytes(bytes));
+        self.agree(Call::Replay, answer.refusal, [&answers[0], &answers[1]], place, &arguments)?;
+        if begun {
+            t.header = answer.header;
+            t.keep();
+        }
+        Ok(answer)
+    }
+
+    /// What a replay that never began has to answer: 1, 2 or 9, and nothing else.
+    fn unbegun(&self, answer: Replayed) -> Option<String> {
+        let alone = Replayed { refusal: answer.refusal, ..Replayed::default() };
+        let right = answer == alone && [1, 2, 9].contains(&answer.refusal);
+        (!right).then(|| String::from("a replay that never began answers more than its refusal"))
+    }
+
+    /// A replay that came to its end has byte 0, and each of the two would write the very bytes it has read.
+    fn replay_rules(&self, bytes: &[u8], answer: Replayed) -> Option<String> {
+        if answer.refusal != 0 {
+            return None;
+        }
+        if answer.byte != 0 {
+            return Some(String::from("a complete replay answers a byte"));
+        }
+        let alike = [self.first, self.second].iter().all(|one| written_again(*one, bytes).as_deref() == Some(bytes));
+        (!alike).then(|| String::from("the accepted log is not what would be written"))
+    }
+
+    /// The number at a position.
+    pub fn decode(&mut self, bytes: &[u8], at: usize) -> Checked<()> {
+        self.call.set(Some(Call::Decode));
+        let answers = [self.first.decode(bytes, at), self.second.decode(bytes, at)];
+        let mut place = None;
+        if let (Ok((value, end)), true) = (answers[0], answers[0] == answers[1]) {
+            let same = |one: &dyn Implementation| {
+                let mut out = [0; 8];
+                one.encode(value, &mut out, 0).ok().map(|length| out[..length].to_vec()) == bytes.get(at..end).map(<[u8]>::to_vec)
+            };
+            place = (!same(self.first) || !same(self.second)).then(|| String::from("the accepted bytes are not those that would be written"));
+        }
+        self.agree(Call::Decode, number_of(&answers[0]), [&answers[0], &answers[1]], place, &|| format!("{} at {at}", short_bytes(bytes)))
+    }
+
+    /// The record at a position.
+    pub fn read_record(&mut self, bytes: &[u8], at: usize) -> Checked<()> {
+        self.call.set(Some(Call::ReadRecord));
+        let answers = [self.first.read_record(bytes, at), self.second.read_record(bytes, at)];
+        let mut place = None;
+        if let (Ok((event, end)), true) = (answers[0], answers[0] == answers[1]) {
+            let same = |one: &dyn Implementation| {
+                let mut out = [0; 24];
+                one.write_record(event, &mut out, 0).ok().map(|length| out[..length].to_vec()) == bytes.get(at..end).map(<[u8]>::to_vec)
+            };
+            place = (!same(self.first) || !same(self.second)).then(|| String::from("the accepted bytes are not those that would be written"));
+        }
+        self.agree(Call::ReadRecord, number_of(&answers[0]), [&answers[0], &answers[1]], place, &|| format!("{} at {at}", short_bytes(bytes)))
+    }
+
+    /// Writing a number into two copies of `out`, and reading it back.
+    pub fn encode(&mut self, value: u32, out: &[u8], at: usize) -> Checked<()> {
+        self.call.set(Some(Call::Encode));
+        let mut outs = [out.to_vec(), out.to_vec()];
+        let answers = [self.first.encode(value, &mut outs[0], at), self.second.encode(value, &mut outs[1], at)];
+        let back = |one: &dyn Implementation, end: usize| one.decode(&outs[0], at) == Ok((value, end));
+        let mut place = written_place(out, &outs, at, answers[0]);
+        if let (Ok(end), None) = (answers[0], &place) {
+            place = (!back(self.first, end) || !back(self.second, end)).then(|| String::from("read back it is not the same number"));
+        }
+        let arguments = || format!("{value} into {} bytes at {at}", out.len());
+        self.agree(Call::Encode, number_of(&answers[0]), [&answers[0], &answers[1]], place, &arguments)
+    }
+
+    /// Writing a record into two copies of `out`, and reading it back.
+    pub fn write_record(&mut self, event: Event, out: &[u8], at: usize) -> Checked<()> {
+        self.call.set(Some(Call::WriteRecord));
+        let mut outs = [out.to_vec(), out.to_vec()];
+        let answers = [self.first.write_record(event, &mut outs[0], at), self.second.write_record(event, &mut outs[1], at)];
+        let back = |one: &dyn Implementation, end: usize| one.read_record(&outs[0], at) == Ok((event, end));
+        let mut place = written_place(out, &outs, at, answers[0]);
+        if let (Ok(end), None) = (answers[0], &place) {
+            place = (!back(self.first, end) || !back(self.second, end)).then(|| String::from("read back it is not the same event"));
+        }
+        let arguments = || format!("{event:?} into {} bytes at {at}", out.len());
+        self.agree(Call::WriteRecord, number_of(&answers[0]), [&answers[0], &answers[1]], place, &arguments)
+    }
+
+    /// The text of `tally`, written into two copies of `out`; answers its length where it fits.
+    pub fn tally(&mut self, bytes: &[u8], out: &[u8]) -> Checked<Option<usize>> {
+        self.call.set(Some(Call::Tally));
+        let mut outs = [out.to_vec(), out.to_vec()];
+        let answers = [self.first.tally(bytes, &mut outs[0]), self.second.tally(bytes, &mut outs[1])];
+        let arguments = || format!("input {}, room for {} bytes", short_bytes(bytes), out.len());
+        let place = written_place(out, &outs, 0, answers[0]);
+        self.agree(Call::Tally, number_of(&answers[0]), [&answers[0], &answers[1]], place, &arguments)?;
+        let Ok(length) = answers[0] else { return Ok(None) };
+        let refusal = text_refusal(&outs[0][..length]);
+        let place = refusal.is_none().then(|| String::from("the last line is neither of the two that the paper gives"));
+        self.agree(Call::Text, refusal.unwrap_or(0), [&answers[0], &answers[1]], place, &arguments)?;
+        Ok(Some(length))
+    }
+}
+
+/// The first byte at which two outputs differ, or that lies outside the answer and was written all the same.
+fn written_place(out: &[u8], outs: &[Vec<u8>; 2], at: usize, answer: Result<usize, u32>) -> Option<String> {
+    let both = first_place("out", &outs[0], &outs[1]);
+    let (from, to) = match answer {
+        Ok(end) => (at, end),
+        Err(_) => (out.len(), out.len()),
+    };
+    if from > to || to > out.len() {
+        return both.or_else(|| Some(String::from("the answer lies outside the output")));
+    }
+    both.or_else(|| first_place("out before the answer", &out[..from], &outs[0][..from]))
+        .or_else(|| first_place("out after the answer", &out[to..], &outs[0][to..]))
+}
+
+/// The log that an implementation would write for the log that it has read.
+fn written_again(one: &dyn Implementation, bytes: &[u8]) -> Option<Vec<u8>> {
+    let mut out = vec![0; bytes.len()];
+    let (n, mut at) = one.decode(bytes, 0).ok()?;
+    one.encode(n, &mut out, 0).ok()?;
+    while at < bytes.len() {
+        let (event, end) = one.read_record(bytes, at).ok()?;
+        if one.write_record(event, &mut out, at) != Ok(end) {
+            return None;
+        }
+        at = end;
+    }
+    Some(out)
+}
+
+/// The refusal that the last line of a text names, 0 for the line of events, nothing for any other line.
+fn text_refusal(text: &[u8]) -> Option<u32> {
+    let text = std::str::from_utf8(text).ok()?.strip_suffix('\n')?;
+    let words: Vec<&str> = text.lines().last()?.split(' ').collect();
+    match words[..] {
+        ["events", events, "gain", gain] => (events.parse::<u64>().is_ok() && gain.parse::<u64>().is_ok()).then_some(0),
+        ["refused", number, "at", byte] if byte.parse::<u64>().is_ok() => number.parse().ok(),
+        _ => None,
+    }
+}
+
+#[cfg(test)]
+mod tests {
+    use super::*;
+
+    /// The two last lines of the paper are read, and no other line is.
+    #[test]
+    fn last_line_is_read() {
+        assert_eq!(text_refusal(b"0 1 0\nevents 8 gain 10\n"), Some(0));
+        assert_eq!(text_refusal(b"refused 10 at 16384\n"), Some(10));
+        for wrong in [&b"events 8 gain 10"[..], b"events 8\n", b"refused 3 at\n", b"refused 3 at 4 \n", b"", b"0 1 0\n"] {
+            assert_eq!(text_refusal(wrong), None);
+        }
+    }
+
+    /// A byte written on refusal, before the answer or after it is a place; a byte within it is none.
+    #[test]
+    fn bytes_outside_the_answer_are_seen() {
+        let out = [7; 6];
+        let changed = |at: usize| {
+            let mut other = out.to_vec();
+            other[at] = 1;
+            [other.clone(), other]
+        };
+        assert!(written_place(&out, &changed(2), 2, Ok(4)).is_none());
+        assert!(written_place(&out, &changed(1), 2, Ok(4)).is_some());
+        assert!(written_place(&out, &changed(4), 2, Ok(4)).is_some());
+        assert!(written_place(&out, &changed(2), 2, Err(10)).is_some());
+    }
+}
