@@ -8,7 +8,7 @@ walks.STRUCTS |= {"question::Tags", "state::Header", "model::Flow", "tagset::Tag
 walks.STRUCTS |= {"foreign::CallAnswer", "foreign::SetAnswer", "foreign::SizeAnswer", "foreign::LegalAnswer", "foreign::ReplayAnswer"}
 TEXT = sys.stdin.read()
 LENT = ["tags", "policies", "counts", "flows"]
-ANSWER = "(answerIn {r} ≡ answerOf ({a} .reply)) × ({r} .header ≡ {a} .header)"
+ANSWER = "({r} .refusal ≡ answerOf ({a} .reply) .refusal) × ({r} .gain ≡ answerOf ({a} .reply) .gain) × ({r} .header ≡ {a} .header)"
 RUN = "({r} .refusal ≡ endingOf ({a} .ending)) × ({r} .byte ≡ {a} .byte) × ({r} .events ≡ {a} .events) × ({r} .gain ≡ {a} .gain) × ({r} .header ≡ {a} .header)"
 
 
@@ -48,7 +48,7 @@ for fn, names, of, over in (
     go(fn, names, lambda x, r, z, f: [f'leftBy {r} {" ".join(z)} ≡ {over(x)}'], "call_answer", ANSWER,
         f"told-outcome r-tell-it r-call-it _ _ _ _ ({outcome}) e0-tell-it e0-call-it",
         lambda r, z: [f"outcomeIn {r} {lists(z)} ≡ {outcome}"],
-        STATE % ("storageOf" if fn == "start" else "stateOf") + "use Rattle.outcome.specs.Outcome.{%s}\nuse Rattle.calls.specs.Replies.{answerOf, leftBy}\n" % of + NUMBERS % "answerIn, outcomeIn, told-outcome")
+        STATE % ("storageOf" if fn == "start" else "stateOf") + "use Rattle.outcome.specs.Outcome.{%s}\nuse Rattle.calls.specs.Replies.{answerOf, leftBy}\n" % of + NUMBERS % "outcomeIn, told-outcome")
 ASKED = ["header"] + LENT + ["container"]
 for fn, tell, said, reply, of in (("tags_of", "set_answer", "setIn", "tagsReply", "tagsOf"), ("size_of", "size_answer", "sizeIn", "sizeReply", "sizeAsked"), ("is_legal", "legal_answer", "legalIn", "legalReply", "legalOf")):
     over = lambda x: f'{of} {state(x)} {x["container"]}'

@@ -9,7 +9,7 @@ use Rattle.tagset.specs.declared.TagSet.{TagSet}
 use Rattle.leb128.specs.Answer.{Reading, Writing}
 use Rattle.eventlog.specs.Answer.{RecordReading}
 use Rattle.state.specs.State.{stateOf}
-use Rattle.outcome.specs.Outcome.{Answer, Outcome}
+use Rattle.outcome.specs.Outcome.{Outcome}
 use Rattle.calls.specs.declared.Answered.{Answered}
 use Rattle.calls.specs.Replies.{answerOf, leftBy}
 use Rattle.question.specs.Question.{Asked}
@@ -25,12 +25,9 @@ use Rattle.foreign.specs.declared.NumberAnswer.{NumberAnswer}
 use Rattle.foreign.specs.declared.WriteAnswer.{WriteAnswer}
 use Rattle.foreign.specs.declared.RecordAnswer.{RecordAnswer}
 
-abbrev pub answerIn : CallAnswer → Answer
-answerIn r = record { refusal = r .refusal; gain = r .gain }
-
 -- the outcome of a call that answered r and left these words of tag sets, words of policy sets, counts and this flow table
 abbrev pub outcomeIn : CallAnswer → List ℕ → List ℕ → List ℕ → List Flow → Outcome
-outcomeIn r tags policies counts flows = record { answer = answerIn r; state = stateOf (r .header) tags policies counts flows }
+outcomeIn r tags policies counts flows = record { answer = record { refusal = r .refusal; gain = r .gain }; state = stateOf (r .header) tags policies counts flows }
 
 abbrev pub setIn : SetAnswer → Asked TagSet
 setIn r = record { refusal = r .refusal; value = r .set }
@@ -63,9 +60,11 @@ recordOf q =
     }
 
 -- the numbers of what a call gives back make up the same outcome, and those of a replay the same run
-pub told-outcome : (r : CallAnswer) (a : Answered) (ts ps cs : List ℕ) (fs : List Flow) (o : Outcome) → (answerIn r ≡ answerOf (a .reply)) × (r .header ≡ a .header)
+pub told-outcome : (r : CallAnswer) (a : Answered) (ts ps cs : List ℕ) (fs : List Flow) (o : Outcome)
+    → (r .refusal ≡ answerOf (a .reply) .refusal) × (r .gain ≡ answerOf (a .reply) .gain) × (r .header ≡ a .header)
     → leftBy a ts ps cs fs ≡ o → outcomeIn r ts ps cs fs ≡ o
-told-outcome r a ts ps cs fs o (answer, header) left = (λ i. record { answer = answer i; state = stateOf (header i) ts ps cs fs }) ∙ left
+told-outcome r a ts ps cs fs o (refusal, gain, header) left =
+    (λ i. record { answer = record { refusal = refusal i; gain = gain i }; state = stateOf (header i) ts ps cs fs }) ∙ left
 
 pub told-replay : (r : ReplayAnswer) (a : Replayed) (ts ps cs : List ℕ) (fs : List Flow) (o : Replay)
     → (r .refusal ≡ endingOf (a .ending)) × (r .byte ≡ a .byte) × (r .events ≡ a .events) × (r .gain ≡ a .gain) × (r .header ≡ a .header)

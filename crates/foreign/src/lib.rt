@@ -20,7 +20,7 @@ ghost use mathlib.Core.Path.{_≡_};
 ghost use Rattle.leb128.specs.Answer.{readingOf, writingOf};
 ghost use Rattle.leb128.specs.Number.{decodeAt, encodeAt, writeAt};
 ghost use Rattle.eventlog.specs.declared.Event.the-variants.{Enable, Disable};
-ghost use Rattle.eventlog.specs.Answer.{recordReadingOf};
+ghost use Rattle.eventlog.specs.Answer.{fieldsOf, read, unread, recordReadingOf};
 ghost use Rattle.eventlog.specs.Log.{recordAt, bytesOf};
 ghost use Rattle.state.specs.State.{storageOf, stateOf};
 ghost use Rattle.outcome.specs.Outcome.{startOf, enableOf, disableOf, addOf};
@@ -32,7 +32,7 @@ ghost use Rattle.ranking.specs.Replies.{rankedReply};
 ghost use Rattle.replay.specs.Replay.{replayOf};
 ghost use Rattle.replay.specs.Replies.{endingOf};
 ghost use Rattle.tallytext.specs.Text.{newStorage, tallyOf};
-ghost use Rattle.foreign.specs.Numbers.{answerIn, outcomeIn, setIn, sizeIn, legalIn, replayIn, readingIn, writingIn, recordOf};
+ghost use Rattle.foreign.specs.Numbers.{outcomeIn, setIn, sizeIn, legalIn, replayIn, readingIn, writingIn, recordOf};
 
 // What an event, a start or adding a policy set answers: the refusal's number or 0, the gain, the header.
 #[repr(C)]
@@ -307,56 +307,48 @@ pub extern "C" fn tally_text(bytes: &[u8], out: &mut [u8]) -> WriteAnswer
 
 // The numbers of what a call gives back.
 fn call_answer(answered: Answered) -> CallAnswer
-    ensures { λ r. ⌜ (answerIn r ≡ answerOf (answered .reply)) × (r .header ≡ answered .header) ⌝ }
+    ensures { λ r. ⌜ (r .refusal ≡ answerOf (answered .reply) .refusal) × (r .gain ≡ answerOf (answered .reply) .gain) × (r .header ≡ answered .header) ⌝ }
 {
     let reply = answered.reply;
     let header = answered.header;
+    CallAnswer {
+        refusal: reply_number(reply),
+        gain: reply_gain(reply),
+        header: header,
+    }
+}
+
+// The number of a reply, 0 where the call is accepted.
+fn reply_number(reply: Reply) -> u32
+    ensures { λ r. ⌜ r ≡ answerOf reply .refusal ⌝ }
+{
     match reply {
-        Reply::Accepted(gain) => CallAnswer {
-            refusal: 0,
-            gain: gain,
-            header: header,
-        },
-        Reply::NoSuchContainer => CallAnswer {
-            refusal: 4,
-            gain: 0,
-            header: header,
-        },
-        Reply::SelfFlow => CallAnswer {
-            refusal: 5,
-            gain: 0,
-            header: header,
-        },
-        Reply::StaleNumber => CallAnswer {
-            refusal: 6,
-            gain: 0,
-            header: header,
-        },
-        Reply::TableFull => CallAnswer {
-            refusal: 7,
-            gain: 0,
-            header: header,
-        },
-        Reply::NotEnabled => CallAnswer {
-            refusal: 8,
-            gain: 0,
-            header: header,
-        },
-        Reply::BadSize => CallAnswer {
-            refusal: 9,
-            gain: 0,
-            header: header,
-        },
-        Reply::PolicyFull => CallAnswer {
-            refusal: 11,
-            gain: 0,
-            header: header,
-        },
-        Reply::InvalidState => CallAnswer {
-            refusal: 12,
-            gain: 0,
-            header: header,
-        },
+        Reply::Accepted(_) => 0,
+        Reply::NoSuchContainer => 4,
+        Reply::SelfFlow => 5,
+        Reply::StaleNumber => 6,
+        Reply::TableFull => 7,
+        Reply::NotEnabled => 8,
+        Reply::BadSize => 9,
+        Reply::PolicyFull => 11,
+        Reply::InvalidState => 12,
+    }
+}
+
+// The gain of a reply, 0 where the call is refused.
+fn reply_gain(reply: Reply) -> u32
+    ensures { λ r. ⌜ r ≡ answerOf reply .gain ⌝ }
+{
+    match reply {
+        Reply::Accepted(gain) => gain,
+        Reply::NoSuchContainer => 0,
+        Reply::SelfFlow => 0,
+        Reply::StaleNumber => 0,
+        Reply::TableFull => 0,
+        Reply::NotEnabled => 0,
+        Reply::BadSize => 0,
+        Reply::PolicyFull => 0,
+        Reply::InvalidState => 0,
     }
 }
 
@@ -505,51 +497,52 @@ fn record_answer(answered: Record) -> RecordAnswer
     ensures { λ r. ⌜ r ≡ recordOf (recordReadingOf answered) ⌝ }
 {
     match answered {
-        Record::Holds(event, next) => match event {
-            Event::Enable { number, from, to } => {
-                let flow = Flow {
-                    number: number,
-                    from: from,
-                    to: to,
-                };
-                RecordAnswer {
-                    refusal: 0,
-                    kind: 0,
-                    flow: flow,
-                    next: next,
-                }
+        Record::Holds(event, next) => held(event, next),
+        Record::Truncated => not_read(1),
+        Record::Overlong => not_read(2),
+        Record::UnknownKind => not_read(3),
+    }
+}
+
+// The numbers of a record that holds this event, with the position after it.
+fn held(event: Event, next: usize) -> RecordAnswer
+    ensures { λ r. ⌜ r ≡ recordOf (read (fieldsOf event) next) ⌝ }
+{
+    match event {
+        Event::Enable { number, from, to } => {
+            let flow = Flow {
+                number: number,
+                from: from,
+                to: to,
+            };
+            RecordAnswer {
+                refusal: 0,
+                kind: 0,
+                flow: flow,
+                next: next,
             }
-            Event::Disable { number } => {
-                let flow = Flow {
-                    number: number,
-                    from: 0,
-                    to: 0,
-                };
-                RecordAnswer {
-                    refusal: 0,
-                    kind: 1,
-                    flow: flow,
-                    next: next,
-                }
-            }
+        }
+        Event::Disable { number } => RecordAnswer {
+            refusal: 0,
+            kind: 1,
+            flow: Flow {
+                number: number,
+                from: 0,
+                to: 0,
+            },
+            next: next,
         },
-        Record::Truncated => RecordAnswer {
-            refusal: 1,
-            kind: 0,
-            flow: Flow::NONE,
-            next: 0,
-        },
-        Record::Overlong => RecordAnswer {
-            refusal: 2,
-            kind: 0,
-            flow: Flow::NONE,
-            next: 0,
-        },
-        Record::UnknownKind => RecordAnswer {
-            refusal: 3,
-            kind: 0,
-            flow: Flow::NONE,
-            next: 0,
-        },
+    }
+}
+
+// The numbers of a record that is refused.
+fn not_read(number: u32) -> RecordAnswer
+    ensures { λ r. ⌜ r ≡ recordOf (unread number) ⌝ }
+{
+    RecordAnswer {
+        refusal: number,
+        kind: 0,
+        flow: Flow::NONE,
+        next: 0,
     }
 }
