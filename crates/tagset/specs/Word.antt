@@ -182,16 +182,16 @@ abbrev pub left : TagSet → TagSet → ℕ → ℕ
 left a b q = getD (a .words) q 0 - bitAnd (getD (a .words) q 0) (getD (b .words) q 0)
 
 -- a subset, as the code tests it: the four words as one
-pub subset-tested : (a b : TagSet) → IsWords a → IsWords b → eqb (bitOr (bitOr (bitOr (left a b 0) (left a b 1)) (left a b 2)) (left a b 3)) 0 ≡ subsetOf a b
-subset-tested a b ha hb =
-    or-none (bitOr (bitOr (left a b 0) (left a b 1)) (left a b 2)) (left a b 3)
-    ∙ ap (λ (u : Bool). u && eqb (left a b 3) 0)
-    (or-none (bitOr (left a b 0) (left a b 1)) (left a b 2) ∙ ap (λ (u : Bool). u && eqb (left a b 2) 0) (or-none (left a b 0) (left a b 1)))
-    ∙ (λ i. word 0 i && word 1 i && word 2 i && word 3 i)
+pub subset-tested : (a b : TagSet) → IsWords a → IsWords b → {x y z w : ℕ} → x ≡ left a b 0 → y ≡ left a b 1 → z ≡ left a b 2 → w ≡ left a b 3
+    → eqb (bitOr (bitOr (bitOr x y) z) w) 0 ≡ subsetOf a b
+subset-tested a b ha hb {x} {y} {z} {w} p q r s =
+    or-none (bitOr (bitOr x y) z) w
+    ∙ ap (λ (u : Bool). u && eqb w 0) (or-none (bitOr x y) z ∙ ap (λ (u : Bool). u && eqb z 0) (or-none x y))
+    ∙ (λ i. word 0 p i && word 1 q i && word 2 r i && word 3 s i)
     ∙ sym (subset-words a b ha hb)
   where
-    word : (q : ℕ) → eqb (left a b q) 0 ≡ within (getD (a .words) q 0) (getD (b .words) q 0)
-    word q = left-none (getD (a .words) q 0) (getD (b .words) q 0)
+    word : {v : ℕ} (k : ℕ) → v ≡ left a b k → eqb v 0 ≡ within (getD (a .words) k 0) (getD (b .words) k 0)
+    word k e = ap (λ (u : ℕ). eqb u 0) e ∙ left-none (getD (a .words) k 0) (getD (b .words) k 0)
 
 -- the same tags, as the code tests them
 pub same-tested : (a b : TagSet) → IsWords a → IsWords b

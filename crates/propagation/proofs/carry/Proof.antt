@@ -126,7 +126,7 @@ returns-4 c =
     let start = known .before .before in
     let tags = start .args .tags .now in
     all start (λ i. known .before .shared-slice-known .given i .fits) (λ i. known .slice-known .given i .fits) (
-      c .before .before .before .before .store-set .ensures ∙ store-whole _ _ _ (omega arith) ∙ ap (putSet tags (start .args .b)) (new-is union)
+      c .before .before .before .before .store-set .ensures ∙ store-whole tags (start .args .b) (union .union .result) (omega arith) ∙ ap (putSet tags (start .args .b)) (new-is union)
           ∙ sym (edge-inside _ _ (Edge start) tags (within inside) .0),
       omega (arith, sizes c),
     )
