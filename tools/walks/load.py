@@ -1,6 +1,6 @@
 """Writes the walk of `flowslice::load`. Run from the repository's root; then `rt fmt`.
 
-A record has 12 bytes and three fields: where it grows, `is-none`, `place-12` and `offset-fits` (crates/flowslice/proofs/Rows.antt) follow. The numbers of the
+A record has 12 bytes and three fields: where it grows, the line with `agg !` below, and `is-none`, `place-12` and `offset-fits` (crates/flowslice/proofs/Rows.antt) follow. The numbers of the
 locals and of the statements are those of `rt mir flowslice`.
 """
 from context import Ctx, block, blocks, close, entry

@@ -258,7 +258,8 @@
 -- OF NO SENTENCE, but of what the sentences rest on. `apply_enable`, `apply_disable` (calls/src/lib.rt), by which a replay runs, judge no state and are no calls
 --   of the paper: apply-enable-answers-the-first, refused-apply-enable-changes-nothing, apply-disable-answers-the-first,
 --   refused-apply-disable-changes-nothing, apply-enable-is-enable, apply-disable-is-disable, what-apply-enable-does, what-apply-disable-does.
---   `rank_sets` (ranking/src/lib.rt), by which the text is made, judges none either: rank-sets-writes-the-ranking-or-nothing
+--   `rank_sets` (ranking/src/lib.rt), by which the text is made, judges none either: rank-sets-writes-the-ranking-or-nothing.
+--   The exported functions (foreign/src/lib.rt) are the calls and the reader and writer once more, for other languages: their contracts cite the same definitions
 use mathlib.Core.Path.{_≡_, refl, sym, ap, _∙_, subst}
 use mathlib.Core.Bool.{true, false}
 use mathlib.Core.List.{List, [], _∷_, _++_, map}
@@ -882,7 +883,7 @@ the-buffer-of-tally-suffices = tally-suffices
 
 -- THE PROGRAM makes the text of its input in a new tracker's storage (`printedOf`, which the contract of `report_of` in tally/src/main.rt cites): all that
 -- is claimed of texts, with `newStorage` for the lent lists. That takes every n from 1 to 256, so 9 is answered for n alone. That `main` hands over what was
--- read, and writes the text, are the three lines around that call, which no contract speaks of
+-- read, and writes the text, are the other lines of `main`, which no contract speaks of
 pub the-program-takes-every-n : (n : ℕ) → IsSized n newStorage ↔ ((1 ≤ n) × (n ≤ 256))
 the-program-takes-every-n = new-storage-sized
 
@@ -908,7 +909,7 @@ the-tags-printed-are-flows bs lent are b c t l =
 pub the-events-printed-are-those-done : (bs : List ℕ) (lent : Storage) → IsBytes bs → containersIn bs lent .refusal ≡ 0 → replayOf bs lent .events ≡ length (doneOf bs)
 the-events-printed-are-those-done bs lent are b = replay-does bs lent are b .events ∙ ap length (replay-done bs lent are b)
 
--- THE RUNNING CALLS (tracker/src/lib.rt). The contract of each is one equation: what the call gives back and leaves in the lent lists (`leftBy`) makes up the
+-- THE RUNNING CALLS (tracker/src/lib.rt). The contract of each is an equation (two, of the ranking): what the call gives back and leaves in the lent lists (`leftBy`) makes up the
 -- outcome of its definition, for every number and every content and length of storage. It is the hypothesis here; the reader compares it with the line
 -- `ensures` there. So what is claimed above of the definitions is true of the calls, one by one:
 

@@ -1,6 +1,7 @@
 // The product for programs in other languages: its calls, the log's reader and writer and the text of `tally`, exported as C functions on numbers, slices
-// and records. Each does what the function of its name does and nothing else; an enum's case is said by the paper's number.
-// evidence/product has the same records in Rust.
+// and records. Each does what the function that its comment names does, and nothing else; an enum's case is said by the paper's number.
+// A slice is a pointer and a length. What no contract here can say, a caller in C owes: each pointer is aligned and not null, its elements are there for the whole
+// call, and what is lent to be written overlaps nothing else. evidence/product and evidence/interface have the same records in Rust.
 use calls::Answered;
 use calls::Reply;
 use eventlog::Event;
@@ -250,13 +251,13 @@ pub extern "C" fn log_decode(bytes: &[u8], at: usize) -> NumberAnswer
     number_answer(leb128::decode(bytes, at, 32))
 }
 
-// `leb128::encode`.
+// `leb128::encode` of a number of 32 bits.
 #[no_mangle]
-pub extern "C" fn log_encode(out: &mut [u8], at: usize, value: u64) -> WriteAnswer
+pub extern "C" fn log_encode(out: &mut [u8], at: usize, value: u32) -> WriteAnswer
     ensures answer { λ r. ⌜ writingIn r ≡ encodeAt (now (out .entry)) at value .answer ⌝ }
     ensures output { λ r. ⌜ now (out .exit) ≡ encodeAt (now (out .entry)) at value .output ⌝ }
 {
-    write_answer(leb128::encode(out, at, value))
+    write_answer(leb128::encode(out, at, value as u64))
 }
 
 // `eventlog::read_record`.

@@ -72,7 +72,7 @@ extern "C" {
     pub fn tracker_rank(header: Header, tags: *const u64, tags_length: usize, policies: *const u64, policies_length: usize, counts: *const u8, counts_length: usize, flows: *const Flow, flows_length: usize, out: *mut u16, out_length: usize) -> u32;
     pub fn tracker_replay(bytes: *const u8, bytes_length: usize, tags: *mut u64, tags_length: usize, policies: *mut u64, policies_length: usize, counts: *mut u8, counts_length: usize, flows: *mut Flow, flows_length: usize) -> ReplayAnswer;
     pub fn log_decode(bytes: *const u8, bytes_length: usize, at: usize) -> NumberAnswer;
-    pub fn log_encode(out: *mut u8, out_length: usize, at: usize, value: u64) -> WriteAnswer;
+    pub fn log_encode(out: *mut u8, out_length: usize, at: usize, value: u32) -> WriteAnswer;
     pub fn log_read_record(bytes: *const u8, bytes_length: usize, at: usize) -> RecordAnswer;
     pub fn log_write_enable(out: *mut u8, out_length: usize, at: usize, flow: Flow) -> WriteAnswer;
     pub fn log_write_disable(out: *mut u8, out_length: usize, at: usize, number: u32) -> WriteAnswer;

@@ -88,7 +88,7 @@ impl Implementation for Product {
     }
 
     fn encode(&self, value: u32, out: &mut [u8], at: usize) -> Result<usize, u32> {
-        written(unsafe { foreign::log_encode(out.as_mut_ptr(), out.len(), at, u64::from(value)) })
+        written(unsafe { foreign::log_encode(out.as_mut_ptr(), out.len(), at, value) })
     }
 
     fn read_record(&self, bytes: &[u8], at: usize) -> Result<(Event, usize), u32> {
