@@ -4,15 +4,33 @@ use crate::clauses::{tags, CLAUSES};
 use crate::counts::Class;
 use crate::inputs::{Random, MOST_BYTES, NUMBERS, SIZES, TABLE};
 use crate::logs::{any_ends, damaged, exact_log, odd_number, put_number, Course, Refused, Steps, Written, DAMAGES, LIMITS, REFUSED, SHAPES};
+use crate::long::{long_replay, overlong_log, LONG_REPLAYS, OVERLONG};
+use crate::made::{lengthen, made_state};
 use crate::pair::{Checked, Pair, Tracker};
 use crate::states::{ample_storage, cut_to_need, lengths, right_policy, storage, Content, Pool, STATES};
+use crate::wide::{wide_course, WIDE};
 use interface::{Event, Flow, Header, Lent};
 
-/// Positions that lie so far off that a sum with them may wrap.
-const FAR: [usize; 4] = [usize::MAX, usize::MAX - 1, usize::MAX - 4, usize::MAX / 2];
+/// Positions so far off that a sum with them may wrap, and those that are near ones in fewer bits.
+const FAR: [usize; 14] = [
+    usize::MAX,
+    usize::MAX - 1,
+    usize::MAX - 4,
+    usize::MAX / 2,
+    1 << 8,
+    1 << 16,
+    1 << 31,
+    1 << 32,
+    (1 << 32) + 1,
+    (1 << 32) + 2,
+    1 << 33,
+    1 << 62,
+    1 << 63,
+    (1 << 63) + 1,
+];
 /// The bytes of which all short strings are made.
 const ALPHABET: [u8; 8] = [0, 1, 2, 15, 16, 127, 128, 255];
-/// The first case of the strings over the alphabet.
+/// The case of the strings of one byte, after which those over the alphabet with three more bytes come.
 const OVER_ALPHABET: u64 = 257;
 
 /// What a case needs: the pair, the valid states, the ways to break them.
@@ -45,6 +63,10 @@ pub fn cases(class: Class, budget: u64) -> u64 {
         Class::Random => budget * 12 / 100,
         Class::Sequences => budget * 8 / 100,
         Class::Filled => (budget / 2000).max(4),
+        Class::Wide => (budget / 1000).max(24),
+        Class::Made => budget * 4 / 100,
+        Class::Overlong => OVERLONG as u64,
+        Class::LongReplays => LONG_REPLAYS as u64,
     }
 }
 
@@ -67,6 +89,10 @@ pub fn run_case(run: &mut Run, class: Class, case: u64, seed: u64) -> Checked<()
         Class::Random => random_states(run, random),
         Class::Sequences => sequence(run, random, case as usize),
         Class::Filled => filled(run, random, case as usize),
+        Class::Wide => wide(run, random, case as usize),
+        Class::Made => made(run, random, case as usize),
+        Class::Overlong => overlong(run, random, case as usize),
+        Class::LongReplays => long_replays(run, random, case as usize),
     }
 }
 
@@ -124,16 +150,16 @@ fn fifth_bytes(run: &mut Run, group: u8) -> Checked<()> {
     Ok(())
 }
 
-/// All strings of one byte, of two bytes with this first one, or over the alphabet with this beginning.
+/// All strings of up to three bytes over the alphabet, of two bytes with this first one, of one byte, or over the alphabet with this beginning.
 fn strings(run: &mut Run, case: u64) -> Checked<()> {
     let mut list: Vec<Vec<u8>> = Vec::new();
     if case == 0 {
-        list.push(Vec::new());
-        list.extend((0..=255).map(|byte| vec![byte]));
+        list = suffixes(&[], 3);
     } else if case < OVER_ALPHABET {
         list.extend((0..=255).map(|byte| vec![(case - 1) as u8, byte]));
     } else if case == OVER_ALPHABET {
-        list = suffixes(&[], 3);
+        list.push(Vec::new());
+        list.extend((0..=255).map(|byte| vec![byte]));
     } else {
         let place = (case - OVER_ALPHABET - 1) as usize;
         let beginning = [ALPHABET[place / 64], ALPHABET[place / 8 % 8], ALPHABET[place % 8]];
@@ -143,7 +169,7 @@ fn strings(run: &mut Run, case: u64) -> Checked<()> {
         run.pair.input();
         run.pair.decode(string, 0)?;
         run.pair.read_record(string, 0)?;
-        if case < OVER_ALPHABET {
+        if case <= OVER_ALPHABET {
             run.pair.decode(string, 1)?;
             run.pair.read_record(string, 1)?;
         }
@@ -192,6 +218,7 @@ fn records(run: &mut Run, random: &mut Random) -> Checked<()> {
     let out = random.bytes(need + 4);
     let far = random.pick(&[need + 3, need + 4, need + 5, usize::MAX, usize::MAX - 1, usize::MAX - need, usize::MAX - need + 1]);
     run.pair.write_record(event, &out, far)?;
+    run.pair.write_record(event, &out, random.pick(&FAR))?;
     written.event(any_event(random));
     for at in 0..=written.bytes.len() + 1 {
         run.pair.read_record(&written.bytes, at)?;
@@ -293,7 +320,7 @@ fn full_log(random: &mut Random, course: &mut Course) -> Vec<u8> {
     Written::new(course.n, &events).bytes
 }
 
-/// Random bytes, few or many; among them a wrong n before right records.
+/// Random bytes, few or many.
 fn random_log(random: &mut Random, case: usize) -> Vec<u8> {
     let length = [0, 1, 2, 3, 8, 30, 100, 400][case % 8];
     let length = length + random.below(length + 1);
@@ -348,7 +375,7 @@ fn cuts(run: &mut Run, random: &mut Random) -> Checked<()> {
     Ok(())
 }
 
-/// A log whose length lies at the limit of `tally`: valid, with a refused last record, or cut to the limit.
+/// A log whose length lies at the limit of `tally`: valid, with a refused last record, or cut to one byte less.
 fn long_logs(run: &mut Run, random: &mut Random, case: usize) -> Checked<()> {
     run.pair.input();
     let length = LIMITS[case % LIMITS.len()];
@@ -370,8 +397,10 @@ fn long_logs(run: &mut Run, random: &mut Random, case: usize) -> Checked<()> {
 fn valid(run: &mut Run, random: &mut Random, case: usize) -> Checked<()> {
     run.pair.input();
     let mut state = run.pool.state(case % STATES);
-    if random.once_in(3) {
-        cut_to_need(&mut state);
+    match random.below(12) {
+        0..=3 => cut_to_need(&mut state),
+        4 => lengthen(random, &mut state.lent),
+        _ => {}
     }
     let mut tracker = Tracker::new(state.header, state.lent);
     for _ in 0..2 {
@@ -456,6 +485,7 @@ fn short(run: &mut Run, random: &mut Random, case: usize) -> Checked<()> {
             lent = one_too_short(random, lent, header.containers);
         }
         6 => lent = Lent::default(),
+        _ if case % 16 == 15 => lengthen(random, &mut lent),
         _ => {}
     }
     let mut tracker = Tracker::new(header, lent);
@@ -530,7 +560,7 @@ fn begin_again(run: &mut Run, random: &mut Random, tracker: &mut Tracker, base: 
 /// Enables flows one by one until the table is full, goes past the end, and disables and enables again there.
 fn filled(run: &mut Run, random: &mut Random, case: usize) -> Checked<()> {
     run.pair.input();
-    let n = [256, 2, 40, 255, 100, 9][case % 6];
+    let n = [40, 2, 256, 9, 100, 255][(case + case / SHAPES.len()) % 6];
     let mut tracker = Tracker::new(Header::default(), ample_storage(random, n));
     run.pair.start(&mut tracker, n)?;
     let mut course = Course::new(n, Steps::Gaps);
@@ -550,6 +580,56 @@ fn filled(run: &mut Run, random: &mut Random, case: usize) -> Checked<()> {
         }
     }
     Ok(())
+}
+
+/// A wide or deep course: built by a replay, its last events done as calls, and the whole as a log.
+fn wide(run: &mut Run, random: &mut Random, case: usize) -> Checked<()> {
+    run.pair.input();
+    let (kind, round) = (WIDE[case % WIDE.len()], case / WIDE.len());
+    let sizes = [255, 254, 64 + random.below(193) as u32, 4 + random.below(60) as u32];
+    let n = if round < 2 { 256 } else { random.pick(&sizes) };
+    let (mut course, last) = wide_course(random, kind, n, round % 2 == 1);
+    let mut tracker = Tracker::new(Header::default(), ample_storage(random, n));
+    run.pair.replay(&mut tracker, &Written::new(n, &course.events).bytes)?;
+    course.enable_ends(random, last);
+    if let Some(Event::Enable(flow)) = course.events.last() {
+        run.pair.enable(&mut tracker, *flow)?;
+    }
+    for _ in 0..3 {
+        tracker_call(run, random, &mut tracker)?;
+    }
+    log_case(run, random, n, &Written::new(n, &course.events).bytes)
+}
+
+/// Calls on a valid state that was made by hand, first those that leave it as it is.
+fn made(run: &mut Run, random: &mut Random, case: usize) -> Checked<()> {
+    run.pair.input();
+    let state = made_state(random, case);
+    let mut tracker = Tracker::new(state.header, state.lent);
+    for call in [3, 4, 5, 6, 2, 1, 0] {
+        one_call(run, random, &mut tracker, call, false)?;
+    }
+    every_call(run, random, &mut tracker, true)
+}
+
+/// An input that is too long for `tally`, most of them refused early as well; given to `tally` with little room and enough, and to a replay.
+fn overlong(run: &mut Run, random: &mut Random, case: usize) -> Checked<()> {
+    run.pair.input();
+    let bytes = overlong_log(random, case);
+    for room in [0, 19, 20, 21, 400] {
+        let out = vec![random.draw() as u8; room];
+        run.pair.tally(&bytes, &out)?;
+    }
+    let mut tracker = Tracker::new(Header::default(), ample_storage(random, 4));
+    run.pair.replay(&mut tracker, &bytes).map(drop)
+}
+
+/// A log of very many events or bytes, complete or with its last record refused.
+fn long_replays(run: &mut Run, random: &mut Random, case: usize) -> Checked<()> {
+    run.pair.input();
+    let bytes = long_replay(random, case);
+    let mut tracker = Tracker::new(Header::default(), ample_storage(random, 3));
+    run.pair.replay(&mut tracker, &bytes).map(drop)
 }
 
 /// One of the calls on a tracker, its arguments mostly right.
@@ -590,7 +670,7 @@ fn one_call(run: &mut Run, random: &mut Random, tracker: &mut Tracker, call: usi
         5 => run.pair.is_legal(tracker, container),
         _ => {
             let need = (n as usize).min(300);
-            let right = [need, need, need + 1, need + 5];
+            let right = [need, need, need + 1, need + 5, need + 6, need + 7, need + 100, 1000];
             let short = [need.saturating_sub(1), need.saturating_sub(1), 0, random.below(need.max(1))];
             let length = if wrong { random.pick(&short) } else { random.pick(&right) };
             let out: Vec<u16> = (0..length).map(|_| random.draw() as u16).collect();

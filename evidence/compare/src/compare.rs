@@ -13,7 +13,7 @@ use std::time::Instant;
 const SHARES: u64 = 200;
 
 /// The order in which the classes have their turn: those whose cases take long come last.
-const TURNS: [Class; 13] = [
+const TURNS: [Class; 17] = [
     Class::Numbers,
     Class::Strings,
     Class::Records,
@@ -22,22 +22,29 @@ const TURNS: [Class; 13] = [
     Class::Short,
     Class::Random,
     Class::Valid,
+    Class::Made,
     Class::Sequences,
     Class::Logs,
     Class::Cuts,
     Class::Filled,
+    Class::Wide,
+    Class::Overlong,
     Class::LongLogs,
+    Class::LongReplays,
 ];
 
-/// The cases of a class that stand in this share; the short lists come to their end early.
+/// The cases of a class that stand in this share; the short lists come to their end early, and those whose cases take long begin later.
 fn cases_of(class: Class, inputs: u64, share: u64) -> Range<u64> {
-    let shares = match class {
-        Class::Numbers | Class::LongLogs => SHARES / 10,
-        Class::Strings | Class::Broken => SHARES / 2,
-        _ => SHARES,
+    let (first, shares) = match class {
+        Class::Numbers => (0, SHARES / 10),
+        Class::Filled => (4, SHARES / 5),
+        Class::LongLogs | Class::Overlong => (6, SHARES / 5),
+        Class::Wide | Class::LongReplays => (8, SHARES / 5),
+        Class::Strings | Class::Broken => (0, SHARES / 2),
+        _ => (0, SHARES),
     };
     let all = cases(class, inputs);
-    let up_to = |share: u64| (all * share.min(shares)).div_ceil(shares);
+    let up_to = |share: u64| (all * share.saturating_sub(first).min(shares)).div_ceil(shares);
     up_to(share)..up_to(share + 1)
 }
 

@@ -98,10 +98,17 @@ pub enum Class {
     Random,
     Sequences,
     Filled,
+    Wide,
+    Made,
+    Overlong,
+    LongReplays,
 }
 
+/// How many classes there are.
+const CLASS_COUNT: usize = 17;
+
 /// All classes, in the order of the table that is printed.
-pub const CLASSES: [Class; 13] = [
+pub const CLASSES: [Class; CLASS_COUNT] = [
     Class::Numbers,
     Class::Strings,
     Class::Records,
@@ -115,6 +122,10 @@ pub const CLASSES: [Class; 13] = [
     Class::Random,
     Class::Sequences,
     Class::Filled,
+    Class::Wide,
+    Class::Made,
+    Class::Overlong,
+    Class::LongReplays,
 ];
 
 impl Class {
@@ -134,6 +145,10 @@ impl Class {
             Class::Random => "random",
             Class::Sequences => "sequences",
             Class::Filled => "filled",
+            Class::Wide => "wide",
+            Class::Made => "made",
+            Class::Overlong => "overlong",
+            Class::LongReplays => "long-replays",
         }
     }
 }
@@ -149,22 +164,24 @@ pub fn case_of(name: &str) -> Option<(Class, u64)> {
 #[derive(Clone, Debug, Default)]
 pub struct Counts {
     /// Inputs of each class.
-    pub inputs: [u64; 13],
+    pub inputs: [u64; CLASS_COUNT],
     /// Calls compared in each class.
-    pub calls: [u64; 13],
+    pub calls: [u64; CLASS_COUNT],
     /// Time spent on each class, in nanoseconds.
-    pub time: [u64; 13],
+    pub time: [u64; CLASS_COUNT],
     /// Answers of each number, by class and call.
     pub seen: Vec<[[u64; 13]; 15]>,
     /// Answers no and yes to whether a container may be sent.
     pub legal: [u64; 2],
+    /// Events held against the paper's sentence: enables as calls, events within replays.
+    pub held: [u64; 2],
 }
 
 /// What one class must have seen of one call.
 type Demand = (Class, &'static [Call], &'static [u32]);
 
 /// What each class must have seen, so that one that no longer reaches its aim is an error.
-const DEMANDS: [Demand; 25] = [
+const DEMANDS: [Demand; 31] = [
     (Class::Numbers, &[Call::Decode], &[0, 1, 2]),
     (Class::Numbers, &[Call::Encode], &[0, 10]),
     (Class::Strings, &[Call::Decode], &[0, 1, 2]),
@@ -190,6 +207,12 @@ const DEMANDS: [Demand; 25] = [
     (Class::Sequences, &[Call::Enable], &[0, 4, 5, 6]),
     (Class::Sequences, &[Call::Disable, Call::AddPolicy, Call::Rank, Call::Start, Call::Replay], &[0]),
     (Class::Filled, &[Call::Enable], &[0, 7]),
+    (Class::Wide, &[Call::Enable, Call::Replay, Call::Text], &[0]),
+    (Class::Made, &[Call::Enable], &[0, 4, 5, 6]),
+    (Class::Made, &[Call::Disable, Call::AddPolicy, Call::TagsOf, Call::SizeOf, Call::IsLegal, Call::Rank], &[0]),
+    (Class::Overlong, &[Call::Text, Call::Tally], &[10]),
+    (Class::Overlong, &[Call::Replay], &[2, 3, 4, 9]),
+    (Class::LongReplays, &[Call::Replay], &[0, 1, 3, 8]),
 ];
 
 impl Counts {
@@ -229,6 +252,11 @@ impl Counts {
                 }
             }
         }
+        for (held, word) in [(0, "enable"), (1, "event within a replay")] {
+            if self.held[held] == 0 {
+                lines.push(format!("no {word} was held against the paper's sentence"));
+            }
+        }
         for (legal, word) in [(0, "no"), (1, "yes")] {
             if self.legal[legal] == 0 {
                 lines.push(format!("is_legal never said {word}"));
@@ -254,7 +282,8 @@ impl Counts {
                 text += &if possible { format!("{:>8}", self.of_call(call, answer)) } else { format!("{:>8}", "-") };
             }
         }
-        text + &format!("\nmay be sent: {} yes, {} no\n", self.legal[1], self.legal[0])
+        text += &format!("\nmay be sent: {} yes, {} no", self.legal[1], self.legal[0]);
+        text + &format!("\nheld against the paper's sentence: {} enables, {} events within replays\n", self.held[0], self.held[1])
     }
 }
 
@@ -269,7 +298,7 @@ mod tests {
         let all = counts.missing().len();
         let single: usize = CALLS.iter().map(|call| call.answers().len()).sum();
         let demanded: usize = DEMANDS.iter().map(|(_, calls, answers)| calls.len() * answers.len()).sum();
-        assert_eq!(all, single + demanded + 2);
+        assert_eq!(all, single + demanded + 4);
         counts.note(Class::Broken, Call::Enable, 12);
         assert_eq!(counts.missing().len(), all - 2);
         assert!(!counts.missing().contains(&"enable never answered 12".to_string()));

@@ -8,6 +8,7 @@ mod bytes;
 mod clauses;
 mod events;
 mod questions;
+mod strict;
 mod texts;
 
 /// A way to be wrong: its name, the calls that are wrong, and where they are used.
@@ -28,7 +29,7 @@ const CALLS: &[Scope] = &[Scope::Calls];
 const ALL: &[Scope] = &[Scope::Calls, Scope::Replay, Scope::Tally];
 /// Used within a replay and within `tally`.
 const RUNS: &[Scope] = &[Scope::Replay, Scope::Tally];
-/// Used within a replay, where the storage is the caller's.
+/// Used as a call of its own and within a replay, where the storage is the caller's.
 const REPLAY: &[Scope] = &[Scope::Calls, Scope::Replay];
 /// Used within a replay alone.
 const REPLAY_ALONE: &[Scope] = &[Scope::Replay];
@@ -50,24 +51,55 @@ pub fn faults() -> Vec<Fault> {
     let written = [events::written(), questions::written(), bytes::written(), texts::written()].concat();
     let mut list: Vec<Fault> = written.into_iter().flat_map(of_written).collect();
     list.extend(clauses::aimed());
+    list.extend(strict::aimed());
     list
 }
 
-/// Compares a right implementation with each fault over it, says for each which input found it, and answers how many were found.
-pub fn find_all(right: &dyn Implementation, list: &[Fault], inputs: u64, seed: u64, say: &mut dyn FnMut(String)) -> usize {
-    let pool = Pool::new(right, seed);
-    let mut found = 0;
-    for fault in list {
-        let faulty = Faulty::new(right, fault.hooks, fault.scope, fault.aim);
-        match compare_on(&pool, right, &faulty, inputs, seed) {
-            Err(difference) if !difference.stopped => {
-                found += 1;
-                let arguments: String = difference.arguments.chars().take(100).collect();
-                say(format!("found: {} by {}, {}: {arguments}", fault.name, difference.case, difference.call));
-            }
-            Err(difference) => say(format!("NOT FOUND: {} stopped at case {}", fault.name, difference.case)),
-            Ok(_) => say(format!("NOT FOUND: {}", fault.name)),
+/// The faults that are given to both sides alike, so that only the paper's own sentence and rules can find them.
+pub fn shared() -> Vec<Fault> {
+    events::about_sets().into_iter().flat_map(of_written).filter(|fault| fault.scope != Scope::Tally).collect()
+}
+
+/// What the search for faults is given: the right implementation, the inputs that are drawn, the seed, and whether both sides get the fault.
+#[derive(Clone, Copy)]
+pub struct Search<'a> {
+    pub right: &'a (dyn Implementation + Sync),
+    pub inputs: u64,
+    pub seed: u64,
+    pub both: bool,
+}
+
+/// Looks for one fault: the line that tells what found it, and whether it was found.
+fn look_for(search: &Search, pool: &Pool, fault: &Fault) -> (String, bool) {
+    let wrong = || Faulty::new(search.right, fault.hooks, fault.scope, fault.aim);
+    let (first, second) = (wrong(), wrong());
+    let first: &dyn Implementation = if search.both { &first } else { search.right };
+    match compare_on(pool, first, &second, search.inputs, search.seed) {
+        Err(difference) if !difference.stopped => {
+            let arguments: String = difference.arguments.chars().take(100).collect();
+            (format!("found: {} by {}, {}: {arguments}", fault.name, difference.case, difference.call), true)
         }
+        Err(difference) => (format!("NOT FOUND: {} stopped at case {}", fault.name, difference.case), false),
+        Ok(_) => (format!("NOT FOUND: {}", fault.name), false),
+    }
+}
+
+/// Compares with each fault, in two threads, says for each which input found it, and answers how many were found.
+pub fn find_all(search: Search, list: &[Fault], say: &mut dyn FnMut(String)) -> usize {
+    let half = |begin: usize| {
+        let pool = Pool::new(search.right, search.seed);
+        list.iter().skip(begin).step_by(2).map(|fault| look_for(&search, &pool, fault)).collect::<Vec<_>>()
+    };
+    let halves = std::thread::scope(|scope| {
+        let other = scope.spawn(|| half(1));
+        [half(0), other.join().unwrap_or_default()]
+    });
+    let mut halves = halves.map(Vec::into_iter);
+    let mut found = 0;
+    for place in 0..list.len() {
+        let (line, was) = halves[place % 2].next().unwrap_or_else(|| (format!("NOT FOUND: {}, the search broke off", list[place].name), false));
+        found += usize::from(was);
+        say(line);
     }
     found
 }
@@ -89,7 +121,7 @@ mod tests {
         for scope in ALL {
             let right = Faulty::new(&Reference, RIGHT, *scope, Aim::default());
             let pool = Pool::new(&Reference, 1);
-            if let Err(difference) = compare_on(&pool, &Reference, &right, INPUTS / 6, 1) {
+            if let Err(difference) = compare_on(&pool, &Reference, &right, INPUTS, 1) {
                 panic!("{scope:?}: {difference}");
             }
         }
@@ -101,10 +133,26 @@ mod tests {
     fn every_fault_is_found() {
         let list = faults();
         let mut lines = Vec::new();
-        let found = find_all(&Reference, &list, INPUTS, 1, &mut |line| lines.push(line));
+        let search = Search { right: &Reference, inputs: INPUTS, seed: 1, both: false };
+        let found = find_all(search, &list, &mut |line| lines.push(line));
         lines.retain(|line| line.starts_with("NOT FOUND"));
         assert!(lines.is_empty(), "{}", lines.join("\n"));
         assert_eq!(found, list.len());
+    }
+
+    /// With the same fault on both sides the comparison still ends with a difference, and for one of propagation it is the paper's sentence that tells it.
+    #[test]
+    #[cfg_attr(debug_assertions, ignore = "takes minutes without optimisation: cargo test --release")]
+    fn a_fault_on_both_sides_is_found() {
+        let list = shared();
+        let search = Search { right: &Reference, inputs: INPUTS, seed: 1, both: true };
+        let mut lines = Vec::new();
+        assert_eq!(find_all(search, &list, &mut |line| lines.push(line)), list.len(), "{}", lines.join("\n"));
+        for fault in list.iter().filter(|fault| fault.name.contains("200 passes") || fault.name.contains("copied again") || fault.name.contains("refreshed")) {
+            let sides = [0, 1].map(|_| Faulty::new(&Reference, fault.hooks, fault.scope, fault.aim));
+            let found = compare_on(&Pool::new(&Reference, 1), &sides[0], &sides[1], INPUTS, 1).expect_err(&fault.name);
+            assert!(found.first == found.second && found.place.contains("the paper's sentence"), "{}: {found}", fault.name);
+        }
     }
 
     /// No two faults have the same name.

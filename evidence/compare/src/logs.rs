@@ -15,11 +15,12 @@ pub enum Shape {
     Alike,
     Groups,
     Tree,
+    Layers,
     Random,
 }
 
 /// All shapes.
-pub const SHAPES: [Shape; 11] = [
+pub const SHAPES: [Shape; 12] = [
     Shape::Chain,
     Shape::ChainBack,
     Shape::Ring,
@@ -30,6 +31,7 @@ pub const SHAPES: [Shape; 11] = [
     Shape::Alike,
     Shape::Groups,
     Shape::Tree,
+    Shape::Layers,
     Shape::Random,
 ];
 
@@ -48,6 +50,7 @@ pub fn ends(random: &mut Random, shape: Shape, n: u32, place: usize) -> (u32, u3
         Shape::Alike => (step % 2, 1 - step % 2),
         Shape::Groups => group_ends(random, n),
         Shape::Tree => (step / 2, step + 1),
+        Shape::Layers => layer_ends(n, place),
         Shape::Random => any_ends(random, n),
     }
 }
@@ -57,6 +60,17 @@ fn two_way(n: u32, place: usize) -> (u32, u32) {
     let low = (place / 2 * 2 % n as usize) as u32;
     let (low, high) = if low + 1 < n { (low, low + 1) } else { (0, 1) };
     if place.is_multiple_of(2) { (low, high) } else { (high, low) }
+}
+
+/// The ends of two layers: 1 to many, each of these to one more, at last 0 to 1.
+fn layer_ends(n: u32, place: usize) -> (u32, u32) {
+    let half = (n - 2) / 2;
+    let turn = (place % (2 * half as usize + 1)) as u32;
+    match turn {
+        turn if turn < half => (1, 2 + turn),
+        turn if turn < 2 * half => (2 + turn - half, 2 + turn),
+        _ => (0, 1),
+    }
 }
 
 /// Two ends within a group of six, upwards, so that tag sets stay small.
@@ -125,11 +139,18 @@ impl Course {
 
     /// Enables a flow with the ends of the shape at this place, where there is room and a number.
     pub fn enable(&mut self, random: &mut Random, shape: Shape, place: usize) {
+        if self.n > 1 {
+            let ends = ends(random, shape, self.n, place);
+            self.enable_ends(random, ends);
+        }
+    }
+
+    /// Enables a flow with these ends, where there is room and a number.
+    pub fn enable_ends(&mut self, random: &mut Random, (from, to): (u32, u32)) {
         let Some(number) = self.next_number(random) else { return };
-        if self.n < 2 || self.enabled.len() == TABLE {
+        if self.enabled.len() == TABLE {
             return;
         }
-        let (from, to) = ends(random, shape, self.n, place);
         let flow = Flow { number, from, to };
         self.greatest = number;
         self.enabled.push(flow);
@@ -353,7 +374,7 @@ pub fn damaged(random: &mut Random, written: &Written, damage: Damage) -> Vec<u8
             bytes.splice(start..end, odd_number(random, value));
         }
         Damage::UnknownKind => {
-            let kind = random.pick(&[&[2][..], &[3], &[127], &[128, 1], &[128, 2], &[129, 2], &[129, 2], &[255, 255, 255, 255, 15]]);
+            let kind = random.pick(&[&[2][..], &[3], &[127], &[128, 1], &[128, 2], &[129, 2], &[129, 2], &[129, 2], &[255, 255, 255, 255, 15]]);
             bytes.splice(record..=record, kind.iter().copied());
         }
         Damage::LongKind => drop(bytes.splice(record..=record, odd_number(random, 0))),

@@ -3,7 +3,7 @@
 
 use compare::compare::{compare, compare_case};
 use compare::counts::{case_of, Class};
-use compare::faults::{faults, find_all};
+use compare::faults::{faults, find_all, shared, Fault, Search};
 use product::Product;
 use reference::Reference;
 use std::process::ExitCode;
@@ -16,8 +16,8 @@ struct Asked {
     case: Option<(Class, u64)>,
 }
 
-/// The inputs that are drawn if no number is given: with the lists that are always run and the search for faults, a run of about ten seconds.
-const INPUTS: u64 = 40_000;
+/// The inputs that are drawn if no number is given: with the lists that are always run and the search for faults, a run of ten to fifteen seconds.
+const INPUTS: u64 = 30_000;
 /// The inputs that are drawn in the search for each fault if no number is given.
 const FAULT_INPUTS: u64 = 6_000;
 /// The seed if none is given.
@@ -80,16 +80,23 @@ fn one_case(class: Class, case: u64, seed: u64) -> ExitCode {
     }
 }
 
-/// Looks for each fault over the reference, prints what found it or only those not found, and answers whether all were found.
+/// Looks for each fault over the reference, then for those that both sides have alike, and answers whether all were found.
 fn look_for_faults(inputs: u64, seed: u64, each: bool) -> bool {
-    let list = faults();
+    let search = Search { right: &Reference, inputs, seed, both: false };
+    let one_side = look_for(search, &faults(), "faults", each);
+    let both_sides = look_for(Search { both: true, ..search }, &shared(), "faults that both sides have alike", each);
+    one_side && both_sides
+}
+
+/// Looks for each fault of a list, prints what found it or only those not found, and answers whether all were found.
+fn look_for(search: Search, list: &[Fault], what: &str, each: bool) -> bool {
     let mut say = |line: String| {
         if each || !line.starts_with("found") {
             println!("{line}");
         }
     };
-    let found = find_all(&Reference, &list, inputs, seed, &mut say);
-    println!("found {found} of {} faults", list.len());
+    let found = find_all(search, list, &mut say);
+    println!("found {found} of {} {what}", list.len());
     found == list.len()
 }
 

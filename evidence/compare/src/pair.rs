@@ -2,9 +2,13 @@
 use crate::counts::{Call, Class, Counts};
 use crate::difference::{first_place, short_bytes, Account, Difference};
 use crate::inputs::TABLE;
+use crate::sentence;
 use interface::{Answer, Event, Flow, Header, Implementation, Lent, Replayed};
 use std::cell::Cell;
 use std::fmt::Debug;
+
+/// The containers times the events of a replay up to which it is held against the paper's sentence.
+const SENTENCE_COST: u64 = 2_000;
 
 /// What a comparison gives: the answer that both gave, or the difference.
 pub type Checked<T> = Result<T, Difference>;
@@ -40,6 +44,24 @@ impl Tracker {
             return lent_place(&self.before, &self.first).map(|place| format!("both wrote on refusal, {place}"));
         }
         None
+    }
+
+    /// Where the second's sets or gain after an accepted enable are not those of the paper's sentence.
+    fn against_sentence(&self, flow: Flow, gain: u32) -> Option<String> {
+        let n = self.header.containers as usize;
+        let before = &self.before.tags[..4 * n];
+        let mut flows = self.before.flows[..self.header.count as usize].to_vec();
+        flows.push(flow);
+        let after = sentence::after(n, before, &flows);
+        let place = first_place("tags", &self.second.tags[..4 * n], &after)
+            .or_else(|| first_place("gain", &[u64::from(gain)], &[sentence::gain(before, &after)]));
+        place.map(|place| format!("not what the paper's sentence gives, {place}"))
+    }
+
+    /// Where a call that adds no tag, a disable or the adding of a set, has changed a tag or answers a gain.
+    fn against_stillness(&self, gain: u32) -> Option<String> {
+        let place = first_place("tags", &self.second.tags, &self.before.tags).or_else(|| first_place("gain", &[gain], &[0]));
+        place.map(|place| format!("a call that adds no tag, {place}"))
     }
 
     /// The first word beyond the lengths that the paper gives for n containers, if both have written one.
@@ -139,8 +161,15 @@ impl<'a> Pair<'a> {
         Ok(())
     }
 
+    /// Where an accepted event or adding is not what the paper's sentence gives.
+    fn judged(&mut self, t: &Tracker, event: Option<Event>, gain: u32) -> Option<String> {
+        let Some(Event::Enable(flow)) = event else { return t.against_stillness(gain) };
+        self.counts.held[0] += 1;
+        t.against_sentence(flow, gain)
+    }
+
     /// Compares what an event, a starting or an adding left.
-    fn settle(&mut self, call: Call, t: &mut Tracker, n: u32, answers: [Answer; 2], arguments: &dyn Fn() -> String) -> Checked<Answer> {
+    fn settle(&mut self, call: Call, t: &mut Tracker, event: Option<Event>, answers: [Answer; 2], arguments: &dyn Fn() -> String) -> Checked<Answer> {
         let answer = answers[0];
         let refused = answer.refusal != 0;
         let back = if call == Call::Start { Header::default() } else { t.header };
@@ -149,7 +178,10 @@ impl<'a> Pair<'a> {
             place = Some(String::from("a refusal answers a gain or another header"));
         }
         if place.is_none() && !refused {
-            place = t.beyond(n);
+            place = t.beyond(answer.header.containers);
+        }
+        if place.is_none() && !refused && call != Call::Start && answers[0] == answers[1] {
+            place = self.judged(t, event, answers[1].gain);
         }
         self.agree(call, answer.refusal, [&answers[0], &answers[1]], place, arguments)?;
         if !refused {
@@ -163,7 +195,7 @@ impl<'a> Pair<'a> {
     pub fn start(&mut self, t: &mut Tracker, n: u32) -> Checked<Answer> {
         self.call.set(Some(Call::Start));
         let answers = [self.first.start(n, &mut t.first), self.second.start(n, &mut t.second)];
-        self.settle(Call::Start, t, n, answers, &|| format!("n {n}"))
+        self.settle(Call::Start, t, None, answers, &|| format!("n {n}"))
     }
 
     /// Enabling a flow.
@@ -171,7 +203,7 @@ impl<'a> Pair<'a> {
         self.call.set(Some(Call::Enable));
         let header = t.header;
         let answers = [self.first.enable(header, &mut t.first, flow), self.second.enable(header, &mut t.second, flow)];
-        self.settle(Call::Enable, t, header.containers, answers, &|| format!("{header:?}, {flow:?}"))
+        self.settle(Call::Enable, t, Some(Event::Enable(flow)), answers, &|| format!("{header:?}, {flow:?}"))
     }
 
     /// Disabling a flow.
@@ -179,7 +211,7 @@ impl<'a> Pair<'a> {
         self.call.set(Some(Call::Disable));
         let header = t.header;
         let answers = [self.first.disable(header, &mut t.first, number), self.second.disable(header, &mut t.second, number)];
-        self.settle(Call::Disable, t, header.containers, answers, &|| format!("{header:?}, number {number}"))
+        self.settle(Call::Disable, t, Some(Event::Disable(number)), answers, &|| format!("{header:?}, number {number}"))
     }
 
     /// Adding a policy set.
@@ -188,7 +220,7 @@ impl<'a> Pair<'a> {
         let header = t.header;
         let one = self.first.add_policy(header, &mut t.first, container, policy);
         let two = self.second.add_policy(header, &mut t.second, container, policy);
-        self.settle(Call::AddPolicy, t, header.containers, [one, two], &|| format!("{header:?}, container {container}, policy {policy:?}"))
+        self.settle(Call::AddPolicy, t, None, [one, two], &|| format!("{header:?}, container {container}, policy {policy:?}"))
     }
 
     /// Compares what a question answered.
@@ -226,10 +258,11 @@ impl<'a> Pair<'a> {
     /// The ranking, written into two copies of `out`.
     pub fn rank(&mut self, t: &Tracker, out: &[u16]) -> Checked<()> {
         self.call.set(Some(Call::Rank));
-        let mut outs = [out.to_vec(), out.to_vec()];
-        let answers = [self.first.rank(t.header, &t.first, &mut outs[0]), self.second.rank(t.header, &t.second, &mut outs[1])];
+        let (room, mut outs) = (out.len(), [zoned(out), zoned(out)]);
+        let answers = [self.first.rank(t.header, &t.first, &mut outs[0][..room]), self.second.rank(t.header, &t.second, &mut outs[1][..room])];
         let written = if answers[0].is_ok() { t.header.containers as usize } else { 0 };
-        let place = first_place("out", &outs[0], &outs[1])
+        let place = zone_place(&mut outs, room)
+            .or_else(|| first_place("out", &outs[0], &outs[1]))
             .or_else(|| t.unlike(true))
             .or_else(|| first_place("out after the answer", &out[written.min(out.len())..], &outs[0][written.min(out.len())..]));
         let header = t.header;
@@ -239,13 +272,15 @@ impl<'a> Pair<'a> {
     /// A replay of a log in the tracker's storage.
     pub fn replay(&mut self, t: &mut Tracker, bytes: &[u8]) -> Checked<Replayed> {
         self.call.set(Some(Call::Replay));
+        let copy = bytes.to_vec();
         let answers = [self.first.replay(bytes, &mut t.first), self.second.replay(bytes, &mut t.second)];
         let answer = answers[0];
         let begun = answer.header.containers != 0;
-        let mut place = t.unlike(!begun);
+        let mut place = t.unlike(!begun).or_else(|| input_place(&copy, bytes));
         if place.is_none() && answers[0] == answers[1] {
             place = if begun { t.beyond(answer.header.containers) } else { self.unbegun(answer) };
             place = place.or_else(|| self.replay_rules(bytes, answer));
+            place = place.or_else(|| if begun { self.replay_against_sentence(bytes, t, answer) } else { None });
         }
         let lengths = [t.first.tags.len(), t.first.policies.len(), t.first.counts.len(), t.first.flows.len()];
         let arguments = || format!("log {}, storage of lengths {lengths:?}", short_bytes(bytes));
@@ -255,6 +290,19 @@ impl<'a> Pair<'a> {
             t.keep();
         }
         Ok(answer)
+    }
+
+    /// Where the sets or the gain of a replay are not those of the paper's sentence for the events that were done; only where that takes little time.
+    fn replay_against_sentence(&mut self, bytes: &[u8], t: &Tracker, answer: Replayed) -> Option<String> {
+        let n = answer.header.containers as usize;
+        if n as u64 * answer.events > SENTENCE_COST && self.case.0 != Class::Wide {
+            return None;
+        }
+        let events = events_of(self.second, bytes, answer.events)?;
+        self.counts.held[1] += answer.events;
+        let (sets, gain) = sentence::after_all(n, &events);
+        let place = first_place("tags", &t.second.tags[..4 * n], &sets).or_else(|| first_place("gain", &[answer.gain], &[gain]));
+        place.map(|place| format!("not what the paper's sentence gives, {place}"))
     }
 
     /// What a replay that never began has to answer: 1, 2 or 9, and nothing else.
@@ -279,9 +327,10 @@ impl<'a> Pair<'a> {
     /// The number at a position.
     pub fn decode(&mut self, bytes: &[u8], at: usize) -> Checked<()> {
         self.call.set(Some(Call::Decode));
+        let copy = bytes.to_vec();
         let answers = [self.first.decode(bytes, at), self.second.decode(bytes, at)];
-        let mut place = None;
-        if let (Ok((value, end)), true) = (answers[0], answers[0] == answers[1]) {
+        let mut place = input_place(&copy, bytes);
+        if let (Ok((value, end)), true) = (answers[0], answers[0] == answers[1] && place.is_none()) {
             let same = |one: &dyn Implementation| {
                 let mut out = [0; 8];
                 one.encode(value, &mut out, 0).ok().map(|length| out[..length].to_vec()) == bytes.get(at..end).map(<[u8]>::to_vec)
@@ -294,9 +343,10 @@ impl<'a> Pair<'a> {
     /// The record at a position.
     pub fn read_record(&mut self, bytes: &[u8], at: usize) -> Checked<()> {
         self.call.set(Some(Call::ReadRecord));
+        let copy = bytes.to_vec();
         let answers = [self.first.read_record(bytes, at), self.second.read_record(bytes, at)];
-        let mut place = None;
-        if let (Ok((event, end)), true) = (answers[0], answers[0] == answers[1]) {
+        let mut place = input_place(&copy, bytes);
+        if let (Ok((event, end)), true) = (answers[0], answers[0] == answers[1] && place.is_none()) {
             let same = |one: &dyn Implementation| {
                 let mut out = [0; 24];
                 one.write_record(event, &mut out, 0).ok().map(|length| out[..length].to_vec()) == bytes.get(at..end).map(<[u8]>::to_vec)
@@ -309,10 +359,11 @@ impl<'a> Pair<'a> {
     /// Writing a number into two copies of `out`, and reading it back.
     pub fn encode(&mut self, value: u32, out: &[u8], at: usize) -> Checked<()> {
         self.call.set(Some(Call::Encode));
-        let mut outs = [out.to_vec(), out.to_vec()];
-        let answers = [self.first.encode(value, &mut outs[0], at), self.second.encode(value, &mut outs[1], at)];
+        let (room, mut outs) = (out.len(), [zoned(out), zoned(out)]);
+        let answers = [self.first.encode(value, &mut outs[0][..room], at), self.second.encode(value, &mut outs[1][..room], at)];
+        let zone = zone_place(&mut outs, room);
         let back = |one: &dyn Implementation, end: usize| one.decode(&outs[0], at) == Ok((value, end));
-        let mut place = written_place(out, &outs, at, answers[0]);
+        let mut place = written_place(out, &outs, at, answers[0]).or(zone);
         if let (Ok(end), None) = (answers[0], &place) {
             place = (!back(self.first, end) || !back(self.second, end)).then(|| String::from("read back it is not the same number"));
         }
@@ -323,10 +374,11 @@ impl<'a> Pair<'a> {
     /// Writing a record into two copies of `out`, and reading it back.
     pub fn write_record(&mut self, event: Event, out: &[u8], at: usize) -> Checked<()> {
         self.call.set(Some(Call::WriteRecord));
-        let mut outs = [out.to_vec(), out.to_vec()];
-        let answers = [self.first.write_record(event, &mut outs[0], at), self.second.write_record(event, &mut outs[1], at)];
+        let (room, mut outs) = (out.len(), [zoned(out), zoned(out)]);
+        let answers = [self.first.write_record(event, &mut outs[0][..room], at), self.second.write_record(event, &mut outs[1][..room], at)];
+        let zone = zone_place(&mut outs, room);
         let back = |one: &dyn Implementation, end: usize| one.read_record(&outs[0], at) == Ok((event, end));
-        let mut place = written_place(out, &outs, at, answers[0]);
+        let mut place = written_place(out, &outs, at, answers[0]).or(zone);
         if let (Ok(end), None) = (answers[0], &place) {
             place = (!back(self.first, end) || !back(self.second, end)).then(|| String::from("read back it is not the same event"));
         }
@@ -337,10 +389,13 @@ impl<'a> Pair<'a> {
     /// The text of `tally`, written into two copies of `out`; answers its length where it fits.
     pub fn tally(&mut self, bytes: &[u8], out: &[u8]) -> Checked<Option<usize>> {
         self.call.set(Some(Call::Tally));
-        let mut outs = [out.to_vec(), out.to_vec()];
-        let answers = [self.first.tally(bytes, &mut outs[0]), self.second.tally(bytes, &mut outs[1])];
-        let arguments = || format!("input {}, room for {} bytes", short_bytes(bytes), out.len());
-        let place = written_place(out, &outs, 0, answers[0]);
+        let copy = bytes.to_vec();
+        let mut outs = [zoned(out), zoned(out)];
+        let room = out.len();
+        let answers = [self.first.tally(bytes, &mut outs[0][..room]), self.second.tally(bytes, &mut outs[1][..room])];
+        let arguments = || format!("input {}, room for {room} bytes", short_bytes(bytes));
+        let zone = zone_place(&mut outs, room);
+        let place = written_place(out, &outs, 0, answers[0]).or(zone).or_else(|| input_place(&copy, bytes));
         self.agree(Call::Tally, number_of(&answers[0]), [&answers[0], &answers[1]], place, &arguments)?;
         let Ok(length) = answers[0] else { return Ok(None) };
         let refusal = text_refusal(&outs[0][..length]);
@@ -348,6 +403,30 @@ impl<'a> Pair<'a> {
         self.agree(Call::Text, refusal.unwrap_or(0), [&answers[0], &answers[1]], place, &arguments)?;
         Ok(Some(length))
     }
+}
+
+/// The places after an output that no call is lent.
+const ZONE: usize = 8;
+
+/// A copy of an output in a larger buffer, with a zone of known content after it.
+fn zoned<T: Copy + From<u8>>(out: &[T]) -> Vec<T> {
+    let mut larger = Vec::with_capacity(out.len() + ZONE);
+    larger.extend_from_slice(out);
+    larger.resize(out.len() + ZONE, T::from(0xA5));
+    larger
+}
+
+/// The first place of the zones that was written; the outputs come back without them.
+fn zone_place<T: Copy + From<u8> + PartialEq + Debug>(outs: &mut [Vec<T>; 2], room: usize) -> Option<String> {
+    let zone = [T::from(0xA5); ZONE];
+    let place = outs.iter().find_map(|out| first_place("past the end of the output", &zone, &out[room..]));
+    outs.iter_mut().for_each(|out| out.truncate(room));
+    place
+}
+
+/// The first byte of the input that a call has changed.
+fn input_place(copy: &[u8], bytes: &[u8]) -> Option<String> {
+    first_place("the input was written", copy, bytes)
 }
 
 /// The first byte at which two outputs differ, or that lies outside the answer and was written all the same.
@@ -362,6 +441,18 @@ fn written_place(out: &[u8], outs: &[Vec<u8>; 2], at: usize, answer: Result<usiz
     }
     both.or_else(|| first_place("out before the answer", &out[..from], &outs[0][..from]))
         .or_else(|| first_place("out after the answer", &out[to..], &outs[0][to..]))
+}
+
+/// The first so many events of a log.
+fn events_of(one: &dyn Implementation, bytes: &[u8], many: u64) -> Option<Vec<Event>> {
+    let (_, mut at) = one.decode(bytes, 0).ok()?;
+    let mut events = Vec::new();
+    while (events.len() as u64) < many {
+        let (event, end) = one.read_record(bytes, at).ok()?;
+        events.push(event);
+        at = end;
+    }
+    Some(events)
 }
 
 /// The log that an implementation would write for the log that it has read.
@@ -402,6 +493,18 @@ mod tests {
         for wrong in [&b"events 8 gain 10"[..], b"events 8\n", b"refused 3 at\n", b"refused 3 at 4 \n", b"", b"0 1 0\n"] {
             assert_eq!(text_refusal(wrong), None);
         }
+    }
+
+    /// A place written after the output is seen, and the zone is gone afterwards.
+    #[test]
+    fn zones_are_watched() {
+        for (at, seen) in [(2, false), (3, true), (2 + ZONE, true)] {
+            let mut outs = [zoned(&[1_u16, 2, 3]), zoned(&[1, 2, 3])];
+            outs[1][at] = 7;
+            assert_eq!(zone_place(&mut outs, 3).is_some(), seen);
+            assert!(outs.iter().all(|out| out.len() == 3));
+        }
+        assert!(input_place(&[1, 2], &[1, 3]).is_some() && input_place(&[1, 2], &[1, 2]).is_none());
     }
 
     /// A byte written on refusal, before the answer or after it is a place; a byte within it is none.

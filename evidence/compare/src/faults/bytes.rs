@@ -5,7 +5,35 @@ use interface::{Event, Flow, Header, Lent, Replayed};
 
 /// The faults of this file.
 pub fn written() -> Vec<Written> {
-    [numbers(), outputs(), records(), replays()].concat()
+    [numbers(), outputs(), records(), positions(), replays(), long_replays()].concat()
+}
+
+/// Faults that take a position in 32 bits.
+fn positions() -> Vec<Written> {
+    vec![
+        ("a position is taken in 32 bits in decode", CALLS, Hooks { decode: |f, b, at| f.right.decode(b, at as u32 as usize), ..RIGHT }),
+        ("a position is taken in 32 bits in encode", CALLS, Hooks { encode: |f, v, out, at| f.right.encode(v, out, at as u32 as usize), ..RIGHT }),
+        ("a position is taken in 32 bits in read_record", CALLS, Hooks { read_record: |f, b, at| f.right.read_record(b, at as u32 as usize), ..RIGHT }),
+        ("a position is taken in 32 bits in write_record", CALLS, Hooks { write_record: |f, e, out, at| f.right.write_record(e, out, at as u32 as usize), ..RIGHT }),
+    ]
+}
+
+/// Faults that only long logs show.
+fn long_replays() -> Vec<Written> {
+    vec![
+        ("the byte is taken modulo 65,536", REPLAY_ALONE, Hooks { replay: |f, b, l| stopped(f.right.replay(b, l), |run| run.byte %= 65_536), ..RIGHT }),
+        ("the byte is at most 16,384", REPLAY_ALONE, Hooks { replay: |f, b, l| stopped(f.right.replay(b, l), |run| run.byte = run.byte.min(16_384)), ..RIGHT }),
+        ("the events are counted modulo 8,192", REPLAY_ALONE, Hooks { replay: |f, b, l| events_modulo(f, b, l, 8_192), ..RIGHT }),
+        ("the events are counted modulo 65,536", REPLAY_ALONE, Hooks { replay: |f, b, l| events_modulo(f, b, l, 65_536), ..RIGHT }),
+        ("a complete replay's events are counted modulo 8,192", REPLAY_ALONE, Hooks { replay: |f, b, l| complete(f.right.replay(b, l), |run| run.events %= 8_192), ..RIGHT }),
+        ("a log above 65,536 bytes is cut short", REPLAY_ALONE, Hooks { replay: |f, b, l| f.right.replay(&b[..b.len().min(65_536)], l), ..RIGHT }),
+    ]
+}
+
+/// Answers the events modulo a number.
+fn events_modulo(f: &Faulty, bytes: &[u8], lent: &mut Lent, modulo: u64) -> Replayed {
+    let run = f.right.replay(bytes, lent);
+    Replayed { events: run.events % modulo, ..run }
 }
 
 /// Faults of reading numbers.

@@ -10,12 +10,22 @@ pub fn written() -> Vec<Written> {
     [spreading(), gains(), orders(), enabling(), disabling(), starting(), adding()].concat()
 }
 
+/// The faults of propagation and of the gain, which two implementations could have alike.
+pub fn about_sets() -> Vec<Written> {
+    [spreading(), gains()].concat()
+}
+
 /// Faults of propagation.
 fn spreading() -> Vec<Written> {
     vec![
         ("propagation to the destination only", ALL, Hooks { enable: destination_only, ..RIGHT }),
         ("propagation of one pass", ALL, Hooks { enable: one_pass, ..RIGHT }),
         ("propagation of two passes", ALL, Hooks { enable: two_passes, ..RIGHT }),
+        ("propagation of 200 passes", ALL, Hooks { enable: |f, h, l, x| spread(f, h, l, x, |l, h| passes(l, h, 200)), ..RIGHT }),
+        ("the copy of the sets is never refreshed", ALL, Hooks { enable: |f, h, l, x| spread(f, h, l, x, |l, h| copied_again(l, h, 0)), ..RIGHT }),
+        ("the first 100 changed sets are copied again", ALL, Hooks { enable: |f, h, l, x| spread(f, h, l, x, |l, h| copied_again(l, h, 100)), ..RIGHT }),
+        ("the first 126 changed sets are copied again", ALL, Hooks { enable: |f, h, l, x| spread(f, h, l, x, |l, h| copied_again(l, h, 126)), ..RIGHT }),
+        ("the first 250 changed sets are copied again", ALL, Hooks { enable: |f, h, l, x| spread(f, h, l, x, |l, h| copied_again(l, h, 250)), ..RIGHT }),
         ("closure of all flows ever enabled", ALL, Hooks { start: start_ever, enable: enable_ever, ..RIGHT }),
         ("tags never change", ALL, Hooks { enable: never, ..RIGHT }),
         ("propagation at the first enable only", ALL, Hooks { enable: first_only, ..RIGHT }),
@@ -30,6 +40,7 @@ fn gains() -> Vec<Written> {
     vec![
         ("gain off by one", ALL, Hooks { enable: |f, h, l, x| changed(f.right.enable(h, l, x), |a| a.gain += 1), ..RIGHT }),
         ("gain one too many where there is one", ALL, Hooks { enable: |f, h, l, x| changed(f.right.enable(h, l, x), |a| a.gain += u32::from(a.gain > 0)), ..RIGHT }),
+        ("the gain is taken modulo 32,768", ALL, Hooks { enable: |f, h, l, x| changed(f.right.enable(h, l, x), |a| a.gain %= 32_768), ..RIGHT }),
         ("gain counts pairs held before", ALL, Hooks { enable: gain_of_all, ..RIGHT }),
         ("gain of the destination only", ALL, Hooks { enable: gain_of_destination, ..RIGHT }),
         ("gain of a disable is 1", ALL, Hooks { disable: |f, h, l, x| changed(f.right.disable(h, l, x), |a| a.gain = 1), ..RIGHT }),
@@ -198,10 +209,35 @@ fn destination_only(f: &Faulty, header: Header, lent: &mut Lent, flow: Flow) -> 
 fn passes(lent: &mut Lent, header: Header, many: usize) {
     for _ in 0..many {
         let found = lent.tags.clone();
-        for flow in lent.flows[..header.count as usize].iter().copied() {
-            for word in 0..4 {
-                lent.tags[4 * flow.to as usize + word] |= found[4 * flow.from as usize + word];
-            }
+        if pass(lent, header, &found).is_empty() {
+            return;
+        }
+    }
+}
+
+/// One pass over the enabled flows that reads these sets; answers the containers whose sets it changed, in the order of the changes.
+fn pass(lent: &mut Lent, header: Header, found: &[u64]) -> Vec<usize> {
+    let mut changed = Vec::new();
+    for flow in &lent.flows[..header.count as usize] {
+        let (from, to) = (4 * flow.from as usize, 4 * flow.to as usize);
+        if (0..4).any(|word| found[from + word] & !lent.tags[to + word] != 0) {
+            (0..4).for_each(|word| lent.tags[to + word] |= found[from + word]);
+            changed.push(to / 4);
+        }
+    }
+    changed
+}
+
+/// Passes until one adds nothing; of the sets that a pass changed only the first so many are copied again for the next.
+fn copied_again(lent: &mut Lent, header: Header, most: usize) {
+    let mut found = lent.tags.clone();
+    loop {
+        let changed = pass(lent, header, &found);
+        if changed.is_empty() {
+            return;
+        }
+        for container in changed.into_iter().take(most) {
+            found[4 * container..][..4].copy_from_slice(&lent.tags[4 * container..][..4]);
         }
     }
 }

@@ -67,6 +67,8 @@ fn ranking() -> Vec<Written> {
         ("ranking with fewest tags first", SEEN, Hooks { rank: fewest_first, ..RIGHT }),
         ("ranking by container alone", SEEN, Hooks { rank: by_container, ..RIGHT }),
         ("rank writes a place past the answer", CALLS, Hooks { rank: place_past, ..RIGHT }),
+        ("rank writes at place n + 6", CALLS, Hooks { rank: |f, h, l, out| place_far(f, h, l, out, 6), ..RIGHT }),
+        ("rank writes at place n + 99", CALLS, Hooks { rank: |f, h, l, out| place_far(f, h, l, out, 99), ..RIGHT }),
         ("rank clears all places past the answer", CALLS, Hooks { rank: clears_past, ..RIGHT }),
         ("rank leaves out the last place", CALLS, Hooks { rank: last_left_out, ..RIGHT }),
         ("rank refuses an output of just n places", CALLS, Hooks { rank: just_refused, ..RIGHT }),
@@ -160,6 +162,15 @@ fn place_past(f: &Faulty, header: Header, lent: &Lent, out: &mut [u16]) -> Resul
     f.right.rank(header, lent, out)?;
     if let Some(place) = out.get_mut(header.containers as usize) {
         *place = 0;
+    }
+    Ok(())
+}
+
+/// Changes the place so far after the answer where there is one.
+fn place_far(f: &Faulty, header: Header, lent: &Lent, out: &mut [u16], far: usize) -> Result<(), u32> {
+    f.right.rank(header, lent, out)?;
+    if let Some(place) = out.get_mut(header.containers as usize + far) {
+        *place ^= 1;
     }
     Ok(())
 }

@@ -1,7 +1,7 @@
 //! Faults of the text that `tally` prints.
 use super::{Written, TALLY};
 use crate::inputs::MOST_BYTES;
-use crate::wrapper::{tally_by_text, text_by_calls, Faulty, Hooks, RIGHT};
+use crate::wrapper::{ample, tally_by_text, text_by_calls, Faulty, Hooks, RIGHT};
 
 /// The faults of this file.
 pub fn written() -> Vec<Written> {
@@ -38,6 +38,10 @@ fn limits() -> Vec<Written> {
         ("longer input is cut", TALLY, Hooks { text: |f, b| text_by_calls(f, &b[..b.len().min(MOST_BYTES)]), ..RIGHT }),
         ("longer input is refused at its length", TALLY, Hooks { text: |f, b| if b.len() > MOST_BYTES { limit_line(b.len()) } else { text_by_calls(f, b) }, ..RIGHT }),
         ("longer input gives lines before the refusal", TALLY, Hooks { text: lines_before_limit, ..RIGHT }),
+        ("n is judged before the length", TALLY, Hooks { text: containers_first, ..RIGHT }),
+        ("an early refused record is told before the length", TALLY, Hooks { text: early_refusal, ..RIGHT }),
+        ("the length is taken modulo 65,536", TALLY, Hooks { text: |f, b| text_by_calls(f, if b.len() > 65_535 { &b[..b.len() % 65_536] } else { b }), ..RIGHT }),
+        ("the length is taken modulo 32,768", TALLY, Hooks { text: |f, b| text_by_calls(f, if b.len() > 32_767 { &b[..b.len() % 32_768] } else { b }), ..RIGHT }),
         ("text that just fits is refused", TALLY, Hooks { tally: just_refused, ..RIGHT }),
         ("text that lacks one place is accepted", TALLY, Hooks { tally: one_short, ..RIGHT }),
         ("text is written before refusal 10", TALLY, Hooks { tally: written_before, ..RIGHT }),
@@ -48,6 +52,21 @@ fn limits() -> Vec<Written> {
 /// The line of an input that is too long.
 fn limit_line(at: usize) -> String {
     format!("refused 10 at {at}\n")
+}
+
+/// Tells a refused n before the length.
+fn containers_first(f: &Faulty, bytes: &[u8]) -> String {
+    let run = f.right.replay(&bytes[..bytes.len().min(8)], &mut ample());
+    let refused = bytes.len() > MOST_BYTES && run.refusal != 0 && run.header.containers == 0;
+    if refused { format!("refused {} at 0\n", run.refusal) } else { text_by_calls(f, bytes) }
+}
+
+/// Tells the lines and the refusal of a record that begins within the first 16,384 bytes of a longer input.
+fn early_refusal(f: &Faulty, bytes: &[u8]) -> String {
+    let beginning = &bytes[..bytes.len().min(MOST_BYTES)];
+    let run = f.right.replay(beginning, &mut ample());
+    let early = bytes.len() > MOST_BYTES && run.refusal != 0 && run.header.containers != 0;
+    text_by_calls(f, if early { beginning } else { bytes })
 }
 
 /// The right text in its lines, the last one apart.

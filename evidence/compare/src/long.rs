@@ -1,0 +1,92 @@
+//! Inputs beyond the limits of `tally` that are wrong early as well, and logs of very many events and bytes.
+use crate::inputs::{Random, MOST_BYTES};
+use crate::logs::Written;
+use interface::{Event, Flow};
+
+/// Lengths above what `tally` reads, near ones of 16 bits among them.
+const LENGTHS: [usize; 10] = [MOST_BYTES + 1, 65_546, 32_768 + 10, 65_536, MOST_BYTES + 2, 65_535, 65_536 + MOST_BYTES, 65_537 + MOST_BYTES, 131_072 + 7, 262_144];
+
+/// Beginnings that a replay refuses at once: n refused, the first record refused, or bytes that cannot be read.
+const BEGINNINGS: [&[u8]; 8] = [&[0], &[2, 0, 1, 0, 2], &[129, 2], &[2, 129, 2], &[128, 0], &[3, 0, 1, 0, 1, 1, 9], &[2, 0, 128, 0], &[255, 255, 255, 255, 15]];
+
+/// How many overlong inputs there are.
+pub const OVERLONG: usize = LENGTHS.len() * 3;
+
+/// Bytes that `tally` refuses for their length and that are wrong early too: zeros, a refused beginning before zeros, a small log before an unknown kind.
+pub fn overlong_log(random: &mut Random, case: usize) -> Vec<u8> {
+    let length = LENGTHS[case % LENGTHS.len()];
+    let round = case / LENGTHS.len();
+    let mut bytes = match round {
+        0 if case.is_multiple_of(2) => Vec::new(),
+        0 | 1 => BEGINNINGS[(case + round) % BEGINNINGS.len()].to_vec(),
+        _ => vec![2, 0, 1, 0, 1, 1, 1, 7],
+    };
+    let rest = u8::from(case > 0 && random.once_in(4));
+    bytes.resize(length, rest);
+    bytes
+}
+
+/// The long replays: events, and how the log ends.
+const REPLAYS: [(usize, End); 10] = [
+    (20_000, End::Refused),
+    (8_193, End::Complete),
+    (70_000, End::Refused),
+    (20_000, End::Cut),
+    (8_191, End::Unknown),
+    (8_192, End::Complete),
+    (3_500, End::Refused),
+    (65_536, End::Complete),
+    (65_535, End::Refused),
+    (13_108, End::Refused),
+];
+
+/// How many long replays there are.
+pub const LONG_REPLAYS: usize = REPLAYS.len();
+
+/// How a long replay ends.
+#[derive(Clone, Copy, Debug)]
+enum End {
+    Complete,
+    Refused,
+    Unknown,
+    Cut,
+}
+
+/// A log of so many events on three containers, enables and disables by turns.
+pub fn long_replay(random: &mut Random, case: usize) -> Vec<u8> {
+    let (events, end) = REPLAYS[case % REPLAYS.len()];
+    let mut written = Written::new(3, &[]);
+    for place in 0..events {
+        let number = 1 + place as u32 / 2;
+        let (from, to) = random.pick(&[(0, 1), (1, 2), (2, 0)]);
+        let enable = Event::Enable(Flow { number, from, to });
+        written.event(if place % 2 == 0 { enable } else { Event::Disable(number) });
+    }
+    match end {
+        End::Complete => {}
+        End::Refused => written.event(Event::Disable(4_000_000)),
+        End::Unknown => written.bytes.push(2),
+        End::Cut => written.bytes.extend([0, 255]),
+    }
+    written.bytes
+}
+
+#[cfg(test)]
+mod tests {
+    use super::*;
+
+    /// Every overlong input is longer than what `tally` reads.
+    #[test]
+    fn overlong_is_too_long() {
+        let mut random = Random::new(1, 0, 0);
+        assert!((0..OVERLONG).all(|case| overlong_log(&mut random, case).len() > MOST_BYTES));
+    }
+
+    /// Among the long replays are some of more than 65,536 bytes and some whose refused record begins beyond 16,384.
+    #[test]
+    fn long_replays_are_long() {
+        let mut random = Random::new(1, 0, 0);
+        let lengths: Vec<usize> = (0..LONG_REPLAYS).map(|case| long_replay(&mut random, case).len()).collect();
+        assert!([0, 2, 3, 7, 8].iter().all(|case| lengths[*case] > 65_536) && lengths[1] > 16_384);
+    }
+}
