@@ -8,7 +8,6 @@ use native.Mathlib.Omega.{arith}
 use lib.ListN.{length, getD, set}
 use lib.Seq.{getD-set-same, getD-set-other}
 use borrow.Table.Steps.{cases}
-use borrow.Author.Tests.{leb-true, leb-false, lt-leb}
 use lib.Dec.{leb}
 use Rattle.state.specs.State.{setAt}
 use Rattle.tagstore.specs.Store.{loadOf, putSet, storeOf}

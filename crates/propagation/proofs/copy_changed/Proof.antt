@@ -1,11 +1,11 @@
 -- `copy_changed` meets its contract. The invariant: the sets of the first j containers listed are copied. The measure is how many are left. Assumes nothing.
-use mathlib.Core.Path.{_≡_, refl, sym, ap, ap₂, _∙_, subst}
+use mathlib.Core.Path.{_≡_, refl, sym, ap, _∙_, subst}
 use mathlib.Core.List.{List}
-use Prim.Native.Nat.{ℕ, _+_, _*_, _-_, _≤_, _<_}
+use Prim.Native.Nat.{ℕ, _+_, _*_, _-_, _≤_}
 use native.Mathlib.Omega.{arith}
 use lib.ListN.{length, getD}
 use borrow.Author.Needs.{needs}
-use Rattle.tagstore.specs.Store.{loadOf, storeOf}
+use Rattle.tagstore.specs.Store.{storeOf}
 use Rattle.propagation.specs.Found.{Found, found-again}
 use Rattle.propagation.proofs.copy_changed.Statement.{statement}
 use Rattle.propagation.proofs.copy_changed.Tie as tie
