@@ -1,102 +1,78 @@
--- The text is at the start of the output, which it always fits. Assumes nothing.
-use mathlib.Core.Path.{_≡_, sym, ap, _∙_}
-use mathlib.Core.List.{List, [], _∷_}
-use Prim.Native.Nat.{ℕ, zero, suc, _≤_}
+-- By what reading gave. Assumes nothing.
+use mathlib.Core.Path.{_≡_, refl, sym, ap, subst, _∙_}
+use mathlib.Core.List.{List}
+use Prim.Native.Nat.{ℕ, _<_, zero-le}
 use native.Mathlib.Omega.{arith}
-use lib.ListN.{length, take, length-take}
 use lib.Seq.{length-take-le}
 use borrow.Author.Needs.{needs}
-use Rattle.leb128.specs.declared.Encoded.{Encoded}
-use Rattle.leb128.specs.declared.Encoded.the-variants.{Next}
-use Rattle.leb128.specs.Answer.{Writing, writingOf}
-use Rattle.leb128.specs.Number.{IsBytes, writeAt, Written}
-use Rattle.leb128.specs.Output.{unrefused-fits, write-fits, write-length}
-use Rattle.io.specs.Counts.{Counts}
-use Rattle.tallytext.specs.Text.{newStorage}
-use Rattle.tallytext.specs.Laws.{tally-prints, tally-not-short}
+use Rattle.stream.specs.declared.Input.{Input}
+use Rattle.stream.specs.Stream.{Within}
+use Rattle.tally.specs.Program.{shownOf}
 use Rattle.tally.proofs.report_of.Statement.{statement}
 use Rattle.tally.proofs.report_of.Tie as tie
 
--- the position after what was written at the start of an output
-within : (out bs : List ℕ) {r : Encoded} (p : ℕ) → writingOf r ≡ writeAt out 0 bs .answer → r ≡ Next p → p ≤ length out
-within out bs p e n =
-    let a : writingOf (Next p) ≡ writeAt out 0 bs .answer = sym (ap writingOf n) ∙ e in
-    let fits = unrefused-fits out 0 bs (sym (ap (λ (w : Writing). w .refusal) a)) in
-    let next = ap (λ (w : Writing). w .next) (a ∙ ap (λ (w : Written). w .answer) (write-fits out 0 bs fits)) in
-    omega (arith, fits, next)
+enum-known-read : tie.Need-enum-known-read
+enum-known-read c = search needs
 
--- so it counts bytes of what was left there
-counts : (out bs : List ℕ) {r : Encoded} {left : List ℕ} (p : ℕ) → writingOf r ≡ writeAt out 0 bs .answer → left ≡ writeAt out 0 bs .output → r ≡ Next p
-    → Counts p left
-counts out bs {left = left} p e o n =
-    let l : p ≤ length left = omega (arith, within out bs p e n, ap length o ∙ write-length out 0 bs) in (l, sym (length-take-le p left l))
+slice-aggregate-report-of-bytes : tie.Need-slice-aggregate-report-of-bytes
+slice-aggregate-report-of-bytes c =
+    let start = c .before .before .before .before .before .before in
+    let n = c .before .before .read .given .0 .0 in
+    let below : n < 16385 = subst (λ (i : Input). Within i 16385) (c .before .before .read .given .1) (start .pre .1) in
+    sym (length-take-le n (start .args .input .now) (omega arith))
 
--- the first bytes are bytes
-take-bytes : (n : ℕ) (s : List ℕ) → IsBytes s → IsBytes (take n s)
-take-bytes zero s h k = omega arith
-take-bytes (suc n) [] h k = h k
-take-bytes (suc n) (b ∷ bs) h zero = h 0
-take-bytes (suc n) (b ∷ bs) h (suc k) = take-bytes n bs (λ i. h (suc i)) k
-
--- and so are those that are run
-input-bytes : (c : tie.After-shared-slice-known) → IsBytes (take (c .before .args .n) (c .before .args .input .now))
-input-bytes c = take-bytes (c .before .args .n) (c .before .args .input .now) (λ k. c .shared-slice-known .given k .fits)
-
-slice-aggregate-tally : tie.Need-slice-aggregate-tally
-slice-aggregate-tally c = simp length-take (omega arith)
-
-slice-aggregate-tally-2 : tie.Need-slice-aggregate-tally-2
-slice-aggregate-tally-2 c = search needs
-
-slice-aggregate-tally-3 : tie.Need-slice-aggregate-tally-3
-slice-aggregate-tally-3 c = search needs
-
-slice-aggregate-tally-4 : tie.Need-slice-aggregate-tally-4
-slice-aggregate-tally-4 c = search needs
-
-tally-requires : tie.Need-tally-requires
-tally-requires c κs = search needs
-
-enum-known-reply : tie.Need-enum-known-reply
-enum-known-reply c = search needs
+report-of-bytes-requires : tie.Need-report-of-bytes-requires
+report-of-bytes-requires c κs = search needs
 
 enum-told : tie.Need-enum-told
 enum-told c = search needs
+
+report-of-bytes-requires-2 : tie.Need-report-of-bytes-requires-2
+report-of-bytes-requires-2 c κs = search needs
+
+enum-told-2 : tie.Need-enum-told-2
+enum-told-2 c = search needs
 
 same-length : tie.Need-same-length
 same-length c = search needs
 
 returns : tie.Need-returns
+unfolding shownOf
 returns c =
-    let t = c .before .before .before .before .before .before .before .before in
-    let x = t .before .before .before .before .before .before .before in
-    let made = t .tally .ensures in
-    let told = c .before .reply .given .1 in (
-      counts _ _ (c .before .reply .given .0 .0) (made .0) (made .1 .0) told,
-      tally-prints (take (x .before .args .n) (x .before .args .input .now)) newStorage (x .before .args .text .now) (input-bytes x) (omega arith) (made .0) (made .1 .0) (c .before .reply .given .0 .0) told,
-    )
+    let a = c .before .before .before .before .before .before in
+    let start = a .before .before .before .before in
+    let made = c .before .before .report-of-bytes .ensures in
+    (made .0, made .1 ∙ ap (λ (i : Input). shownOf i (start .args .input .now)) (sym (a .read .given .1)))
 
 same-length-2 : tie.Need-same-length-2
 same-length-2 c = search needs
 
 returns-2 : tie.Need-returns-2
+unfolding shownOf
 returns-2 c =
-    let t = c .before .before .before .before .before .before .before in
-    let x = t .before .before .before .before .before .before .before in
-    absurd (tally-not-short (take (x .before .args .n) (x .before .args .input .now)) newStorage (x .before .args .text .now) (input-bytes x) (omega arith) (t .tally .ensures .0) (c .enum-told .given .1))
+    let a = c .before .before .before .before in
+    let start = a .before .before .before .before in
+    let made = c .before .before .report-of-bytes2 .ensures in
+    (made .0, made .1 ∙ ap (λ (i : Input). shownOf i (start .args .input .now)) (sym (a .enum-told .given .1)))
+
+returns-3 : tie.Need-returns-3
+unfolding shownOf
+returns-3 c =
+    let start = c .before .before .before .before in
+    ((zero-le, refl), ap (λ (i : Input). shownOf i (start .args .input .now)) (sym (c .enum-told2 .given .1)))
 
 pub report-of-spec : {M : Type 1} → statement M
 report-of-spec =
     tie.close
     (tie.spec
-    slice-aggregate-tally
-    slice-aggregate-tally-2
-    slice-aggregate-tally-3
-    slice-aggregate-tally-4
-    tally-requires
-    enum-known-reply
+    enum-known-read
+    slice-aggregate-report-of-bytes
+    report-of-bytes-requires
     enum-told
+    report-of-bytes-requires-2
+    enum-told-2
     same-length
     returns
     same-length-2
-    returns-2)
+    returns-2
+    returns-3)

@@ -1,0 +1,53 @@
+-- What is lent is as long as is asked, and the text is within its buffer. Assumes nothing.
+use borrow.Author.Needs.{needs}
+use Rattle.tally.proofs.show.Statement.{statement}
+use Rattle.tally.proofs.show.Tie as tie
+
+slice-aggregate-run : tie.Need-slice-aggregate-run
+slice-aggregate-run c = search needs
+
+slice-aggregate-run-2 : tie.Need-slice-aggregate-run-2
+slice-aggregate-run-2 c = search needs
+
+run-requires : tie.Need-run-requires
+run-requires c κs = (search needs, search needs)
+
+enum-told : tie.Need-enum-told
+enum-told c = search needs
+
+fail-requires : tie.Need-fail-requires
+fail-requires c κs = search needs
+
+returns : tie.Need-returns
+returns c = search needs
+
+array-share-prefix-text : tie.Need-array-share-prefix-text
+array-share-prefix-text c = search needs
+
+slice-aggregate-print : tie.Need-slice-aggregate-print
+slice-aggregate-print c = search needs
+
+slice-aggregate-print-2 : tie.Need-slice-aggregate-print-2
+slice-aggregate-print-2 c = search needs
+
+print-requires : tie.Need-print-requires
+print-requires c κs = search needs
+
+returns-2 : tie.Need-returns-2
+returns-2 c = search needs
+
+pub show-spec : {M : Type 1} → statement M
+show-spec =
+    tie.close
+    (tie.spec
+    slice-aggregate-run
+    slice-aggregate-run-2
+    run-requires
+    enum-told
+    fail-requires
+    returns
+    array-share-prefix-text
+    slice-aggregate-print
+    slice-aggregate-print-2
+    print-requires
+    returns-2)
