@@ -200,7 +200,7 @@
 --
 -- THE PROGRAM
 -- '`tally` reads standard input, up to 16,384 bytes, into a new book': the-program-takes-every-n; `printedOf`, `newStorage` (tallytext/specs/Text.antt), by
---   the contract of `report_of` (tally/src/main.rt). No theorem says that its caller hands over what was read, and that the text is printed
+--   the contract of `run` (tally/src/main.rt), which makes the text of what was read. No theorem says what was read, and that the text is printed
 -- 'It writes the holders in ranking order, a line each: holder, size, tags rising, with single spaces': the-text-of-a-complete-replay,
 --   the-lines-of-containers, the-line-of-a-container, the-tags-of-a-line, a-number-is-its-digits, every-line-ends, the-tags-printed-are-flows; that the
 --   whole text has room: the-buffer-of-tally-suffices
@@ -881,9 +881,9 @@ pub the-buffer-of-tally-suffices : (bs : List ℕ) (lent : Storage) (out : List 
     → tallyOf bs lent out .answer ≡ wrote (length (textOf bs lent))
 the-buffer-of-tally-suffices = tally-suffices
 
--- THE PROGRAM makes the text of its input in a new tracker's storage (`printedOf`, which the contract of `report_of` in tally/src/main.rt cites): all that
--- is claimed of texts, with `newStorage` for the lent lists. That takes every n from 1 to 256, so 9 is answered for n alone. That `main` hands over what was
--- read, and writes the text, are the other lines of `main`, which no contract speaks of
+-- THE PROGRAM makes the text of its input in a new tracker's storage (`printedOf`, which `shownOf` in tally/specs/Program.antt cites): all that is claimed of
+-- texts, with `newStorage` for the lent lists. That takes every n from 1 to 256, so 9 is answered for n alone. That what was read is the input, and that the
+-- text is printed, no contract can say
 pub the-program-takes-every-n : (n : ℕ) → IsSized n newStorage ↔ ((1 ≤ n) × (n ≤ 256))
 the-program-takes-every-n = new-storage-sized
 

@@ -7,6 +7,7 @@ use interface::Implementation;
 mod bytes;
 mod clauses;
 mod events;
+pub mod programs;
 mod questions;
 mod strict;
 mod texts;

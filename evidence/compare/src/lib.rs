@@ -13,6 +13,7 @@ pub mod logs;
 pub mod long;
 pub mod made;
 pub mod pair;
+pub mod program;
 pub mod sentence;
 pub mod states;
 pub mod wide;

@@ -17,7 +17,7 @@ report-of-requires : tie.Need-report-of-requires
 report-of-requires c κs =
     let read = c .before .before .before .before .read-to-end in
     let room : length (read .last .1 .0) ≡ 16385 = search needs in
-    (room, subst (Within (read .result)) room (read .ensures), search needs)
+    let within : Within (read .result) 16385 = subst (Within (read .result)) room (read .ensures) in (room, search needs, search needs)
 
 same-length : tie.Need-same-length
 same-length c = search needs
