@@ -18,7 +18,8 @@ abbrev pub failedBy : Bool → Step
 failedBy true = Again
 failedBy false = Failed
 
--- what a read says that answered `got`: 0 is the end, a positive number is so many bytes, and after a negative one errno has the reason
+-- what a read says that answered `got`: 0 is the end, a positive number is so many bytes; a negative one is a failure,
+-- for the reason in errno
 unfoldable pub stepOf : ℤ → ℤ → Step
 stepOf (pos zero) error = End
 stepOf (pos (suc k)) error = More (suc k)
@@ -31,12 +32,13 @@ Moves End room = Unit {0}
 Moves Again room = Unit {0}
 Moves Failed room = Unit {0}
 
--- where the end was seen there was room for a byte more, so that no byte behind the room was missed
+-- what can come of reading into so much room: where the end was seen there was room for one byte more, so that no byte
+-- past the room was missed; without room there is no read that could fail
 abbrev pub Within : Input → ℕ → Type 0
 Within (Input.Whole n) room = n < room
-Within Input.Longer room = Unit {0}
-Within Input.Failed room = Unit {0}
+Within Input.Full room = Unit {0}
+Within Input.Failed room = 0 < room
 
--- a byte as a line shows it: a question mark for a control byte
-abbrev pub shownByte : ℕ → ℕ
-shownByte b = cond (ltb b 32) 63 (cond (eqb b 127) 63 b)
+-- a byte as a line shows it: a question mark for a control byte of ASCII
+abbrev pub visibleByte : ℕ → ℕ
+visibleByte b = cond (ltb b 32) 63 (cond (eqb b 127) 63 b)

@@ -9,10 +9,11 @@ use Rattle.tallytext.specs.Text.{printedOf}
 use Rattle.tally.specs.declared.Asked.{Asked}
 use Rattle.tally.specs.declared.Asked.the-variants as Asked
 
--- what is printed where reading gave this and left these bytes: the text of what was read, and not a byte where a read failed
+-- what is printed where reading gave this and left these bytes: the text of what was read, and not a byte where a read
+-- failed
 unfoldable pub shownOf : Input → List ℕ → List ℕ
 shownOf (Input.Whole n) bytes = printedOf (take n bytes)
-shownOf Input.Longer bytes = printedOf bytes
+shownOf Input.Full bytes = printedOf bytes
 shownOf Input.Failed bytes = []
 
 -- the word --help

@@ -66,7 +66,7 @@ fn asked_by(word: &[u8]) -> Asked
 }
 
 fn print_help() {
-    stream::print(
+    stream::print_and_close(
         b"usage: tally [FILE]
 
 Reads the log of a shift, from FILE or else from standard input, and prints
@@ -76,15 +76,15 @@ line is one of
 
     events E gain G   the whole log was run: E events, which added G pairs
                       of a tag and a container
-    refused K at B    the record at byte B is refused for reason K, and the
-                      lines above are those of the part before it
+    refused K at B    refused for reason K, at byte B of the log: the lines
+                      above, if any, are those of the part before it
 
-A log has at most 16,384 bytes. If it cannot be read to its end there is no
-text, and a line on standard error says why. If the text cannot be written, a
-line on standard error says so; it is whole only if its last line is one of
-these two and ends in a newline. The exit status is always 0. A FILE whose name
-begins with - is given as ./-NAME. README.md has the form of a log, the reasons
-of a refusal, and a test that a text is whole.
+A log has at most 16,384 bytes. If a read fails there is no text, and a line on
+standard error says why. If a write fails, a line on standard error says why,
+and a part of the text may be there: it is whole only if its last line is one
+of these two and ends in a newline. The exit status is 0, unless a signal ends
+the program. A FILE whose name begins with - is given as ./-NAME. README.md has
+the form of a log, the reasons of a refusal, and a test that a text is whole.
 
     --help   print this text
 ",
@@ -112,8 +112,8 @@ fn show_file(line: &mut [u8], end: usize)
     show(fd, &line[..end]);
 }
 
-// Prints the report of the log that comes from `fd`. If it cannot be read to its end, a line on standard error has `name`
-// and the reason.
+// Prints the report of the log that comes from `fd`. If a read fails, a line on standard error has `name` and the
+// reason.
 fn show(fd: i32, name: &[u8]) {
     let mut input = [0u8; 16385];
     let mut text = [0u8; 264256];
@@ -124,7 +124,7 @@ fn show(fd: i32, name: &[u8]) {
         return;
     }
     let length = ran.length;
-    stream::print(&text[..length], b"tally: standard output");
+    stream::print_and_close(&text[..length], b"tally: standard output");
 }
 
 // What reading gave, and the length of its report.
@@ -133,7 +133,7 @@ struct Ran {
     length: usize,
 }
 
-// Reads a log into `input`, and puts the report of exactly what was read at the start of `text`.
+// Reads a log into `input`, and puts the report of what was read, as `read_to_end` answers it, at the start of `text`.
 fn run(fd: i32, input: &mut [u8], text: &mut [u8]) -> Ran
     requires { ⌜ (length (now input) ≡ 16385) × (264256 ≤ length (now text)) ⌝ }
     ensures { λ r. ⌜ Counts (r .length) (now (text .exit)) ⌝ }
@@ -153,7 +153,7 @@ fn report_of(input: &[u8], read: Input, text: &mut [u8]) -> usize
 {
     match read {
         Input::Whole(n) => report_of_bytes(&input[..n], text),
-        Input::Longer => report_of_bytes(input, text),
+        Input::Full => report_of_bytes(input, text),
         Input::Failed => 0,
     }
 }

@@ -6,19 +6,19 @@ use native.Mathlib.Numerals.{add-one}
 use native.Mathlib.Omega.{arith}
 use lib.ListN.{length, take, drop, set, getD, length-set}
 use borrow.Author.Needs.{needs}
-use Rattle.stream.specs.Stream.{shownByte}
+use Rattle.stream.specs.Stream.{visibleByte}
 use Rattle.stream.proofs.one_line.Statement.{statement}
 use Rattle.stream.proofs.one_line.Tie as tie
 
 -- the first i bytes as they are shown, and the others
 partly : ℕ → List ℕ → List ℕ
-partly i xs = map shownByte (take i xs) ++ drop i xs
+partly i xs = map visibleByte (take i xs) ++ drop i xs
 
 -- all of them
-whole : (xs : List ℕ) → partly (length xs) xs ≡ map shownByte xs
+whole : (xs : List ℕ) → partly (length xs) xs ≡ map visibleByte xs
 unfolding partly
 whole [] = refl
-whole (x ∷ xs) = ap (λ (l : List ℕ). shownByte x ∷ l) (whole xs)
+whole (x ∷ xs) = ap (λ (l : List ℕ). visibleByte x ∷ l) (whole xs)
 
 -- the next byte is as it was
 next-byte : (i : ℕ) (xs : List ℕ) → i < length xs → getD (partly i xs) i 0 ≡ getD xs i 0
@@ -28,12 +28,12 @@ next-byte (suc i) [] h = refl
 next-byte (suc i) (x ∷ xs) h = next-byte i xs (omega arith)
 
 -- one byte more
-one-more : (i : ℕ) (xs : List ℕ) → i < length xs → set (partly i xs) i (shownByte (getD xs i 0)) ≡ partly (suc i) xs
+one-more : (i : ℕ) (xs : List ℕ) → i < length xs → set (partly i xs) i (visibleByte (getD xs i 0)) ≡ partly (suc i) xs
 unfolding partly
 one-more zero [] h = absurd (omega arith)
 one-more zero (x ∷ xs) h = refl
 one-more (suc i) [] h = absurd (omega arith)
-one-more (suc i) (x ∷ xs) h = ap (λ (l : List ℕ). shownByte x ∷ l) (one-more i xs (omega arith))
+one-more (suc i) (x ∷ xs) h = ap (λ (l : List ℕ). visibleByte x ∷ l) (one-more i xs (omega arith))
 
 abbrev Inv-loop : tie.InvT-loop
 Inv-loop name₀ i₀ name i = (i ≤ length name₀) × (length name ≡ length name₀) × (name ≡ partly i name₀)
@@ -45,11 +45,11 @@ loop-holds : tie.Need-loop-holds Inv-loop μ-loop
 unfolding partly
 loop-holds c = (omega arith, refl, refl)
 
-slice-read-shown : tie.Need-slice-read-shown Inv-loop μ-loop
-slice-read-shown c = search needs
+slice-read-visible : tie.Need-slice-read-visible Inv-loop μ-loop
+slice-read-visible c = search needs
 
-shown-requires : tie.Need-shown-requires Inv-loop μ-loop
-shown-requires c κs = search needs
+visible-requires : tie.Need-visible-requires Inv-loop μ-loop
+visible-requires c κs = search needs
 
 slice-write-name : tie.Need-slice-write-name Inv-loop μ-loop
 slice-write-name c = search needs
@@ -65,14 +65,14 @@ loop-again c =
     let at = c .before .before .before .loop in
     let name₀ = c .before .before .before .before .before .args .name .now in
     let within : at .i < length name₀ = omega arith in
-    let byte : c .shown .result ≡ shownByte (getD name₀ (at .i) 0) =
-    c .shown .ensures ∙ ap (λ (l : List ℕ). shownByte (getD l (at .i) 0)) (at .inv .2) ∙ ap shownByte (next-byte (at .i) name₀ within) in
-    let stored : set (at .name) (at .i) (c .shown .result) ≡ partly (at .i + 1) name₀ =
-    ap (λ (l : List ℕ). set l (at .i) (c .shown .result)) (at .inv .2)
+    let byte : c .visible .result ≡ visibleByte (getD name₀ (at .i) 0) =
+    c .visible .ensures ∙ ap (λ (l : List ℕ). visibleByte (getD l (at .i) 0)) (at .inv .2) ∙ ap visibleByte (next-byte (at .i) name₀ within) in
+    let stored : set (at .name) (at .i) (c .visible .result) ≡ partly (at .i + 1) name₀ =
+    ap (λ (l : List ℕ). set l (at .i) (c .visible .result)) (at .inv .2)
     ∙ ap (set (partly (at .i) name₀) (at .i)) byte
     ∙ one-more (at .i) name₀ within
     ∙ ap (λ (k : ℕ). partly k name₀) (sym (add-one (at .i))) in
-    (omega arith, length-set (at .name) (at .i) (c .shown .result) ∙ at .inv .1, stored)
+    (omega arith, length-set (at .name) (at .i) (c .visible .result) ∙ at .inv .1, stored)
 
 same-length : tie.Need-same-length Inv-loop μ-loop
 same-length c = search needs
@@ -90,8 +90,8 @@ one-line-spec =
     Inv-loop
     μ-loop
     loop-holds
-    slice-read-shown
-    shown-requires
+    slice-read-visible
+    visible-requires
     slice-write-name
     add-i
     loop-less

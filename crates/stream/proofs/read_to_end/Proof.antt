@@ -18,8 +18,8 @@ abbrev μ-loop : tie.MeasureT-loop
 loop-holds : tie.Need-loop-holds Inv-loop μ-loop
 loop-holds c = search needs
 
-read-behind-requires : tie.Need-read-behind-requires Inv-loop μ-loop
-read-behind-requires c κs = search needs
+read-after-requires : tie.Need-read-after-requires Inv-loop μ-loop
+read-after-requires c κs = search needs
 
 enum-known-more : tie.Need-enum-known-more Inv-loop μ-loop
 enum-known-more c = search needs
@@ -32,7 +32,7 @@ came : (c : tie.After-more Inv-loop μ-loop) →
 unfolding Moves
 came c =
     let at = c .before .before .before .before .before .before .before .loop in
-    subst (λ (s : Step). Moves s (length (at .buf) - at .done)) (c .more .given .1) (c .before .before .before .before .read-behind .ensures .1)
+    subst (λ (s : Step). Moves s (length (at .buf) - at .done)) (c .more .given .1) (c .before .before .before .before .read-after .ensures .1)
 
 add-done : tie.Need-add-done Inv-loop μ-loop
 add-done c = record { fits = omega (arith, came (c .before)) }
@@ -92,7 +92,7 @@ read-to-end-spec =
     Inv-loop
     μ-loop
     loop-holds
-    read-behind-requires
+    read-after-requires
     enum-known-more
     add-done
     loop-less

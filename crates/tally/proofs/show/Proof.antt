@@ -24,14 +24,14 @@ returns c = search needs
 array-share-prefix-text : tie.Need-array-share-prefix-text
 array-share-prefix-text c = search needs
 
-slice-aggregate-print : tie.Need-slice-aggregate-print
-slice-aggregate-print c = search needs
+slice-aggregate-print-and-close : tie.Need-slice-aggregate-print-and-close
+slice-aggregate-print-and-close c = search needs
 
-slice-aggregate-print-2 : tie.Need-slice-aggregate-print-2
-slice-aggregate-print-2 c = search needs
+slice-aggregate-print-and-close-2 : tie.Need-slice-aggregate-print-and-close-2
+slice-aggregate-print-and-close-2 c = search needs
 
-print-requires : tie.Need-print-requires
-print-requires c κs = search needs
+print-and-close-requires : tie.Need-print-and-close-requires
+print-and-close-requires c κs = search needs
 
 returns-2 : tie.Need-returns-2
 returns-2 c = search needs
@@ -47,7 +47,7 @@ show-spec =
     fail-requires
     returns
     array-share-prefix-text
-    slice-aggregate-print
-    slice-aggregate-print-2
-    print-requires
+    slice-aggregate-print-and-close
+    slice-aggregate-print-and-close-2
+    print-and-close-requires
     returns-2)

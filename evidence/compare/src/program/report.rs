@@ -9,16 +9,20 @@ use std::io;
 use std::process::{Command, Stdio};
 
 /// The line, as README gives it.
-pub const LINE: &str = "tail -n 1 report | { read -r word rest && [ \"$word\" = events ]; }";
+pub const LINE: &str =
+    "tail -n 1 report | { read -r line && expr \"$line\" : 'events [0-9]* gain [0-9]*$' > /dev/null; }";
 
 /// All cases of this kind.
 pub fn cases() -> Vec<Case> {
     let two_short = Setup::piped(&EXAMPLE).output(Output::Limited(EXAMPLE_TEXT.len() - 2));
-    let beginnings = (0..EXAMPLE_TEXT.len()).map(|length| EXAMPLE_TEXT.as_bytes()[..length].to_vec()).collect();
+    let beginnings: Vec<_> = (0..EXAMPLE_TEXT.len()).map(|length| EXAMPLE_TEXT.as_bytes()[..length].to_vec()).collect();
+    let told = |text: &Vec<u8>| [text, b"tally: standard output: No space left on device\n".as_slice()].concat();
+    let merged = beginnings.iter().map(told).collect();
     vec![
         on_texts("the shell's line, whole texts", true, whole_texts()),
         on_texts("the shell's line, texts with refused", false, refused_texts()),
         on_texts("the shell's line, every beginning of the example's text", false, beginnings),
+        on_texts("the shell's line, these with the line of standard error after them", false, merged),
         on_texts("the shell's line, an empty file", false, vec![vec![]]),
         on_run("the shell's line, what tally prints for the example", true, Setup::piped(&EXAMPLE)),
         on_run("the shell's line, what tally prints for the ring of 256", true, Setup::piped(&ring().bytes)),
@@ -95,5 +99,16 @@ fn printed(bench: &Bench, setup: &Setup) -> Result<Vec<u8>, String> {
         Ok(seen) if seen.ending == Ending::Status(0) => Ok(seen.output),
         Ok(seen) => Err(format!("the program did not end as it must: {:?}", seen.ending)),
         Err(error) => Err(format!("the run could not be made: {error}")),
+    }
+}
+
+#[cfg(test)]
+mod tests {
+    use super::LINE;
+
+    /// The line that is tried is the one that README gives.
+    #[test]
+    fn readme_has_the_line() {
+        assert!(include_str!("../../../../README.md").lines().any(|line| line.trim() == LINE));
     }
 }

@@ -13,8 +13,8 @@ use mathlib.Core.Bool.{Bool, true, false}
 use Rattle.libc.specs.Io.{Moved}
 use Rattle.stream.specs.declared.Step.{Step}
 use Rattle.stream.specs.Stream.{stepOf, isInterrupted, failedBy, Moves}
-use Rattle.stream.proofs.read_behind.Statement.{statement}
-use Rattle.stream.proofs.read_behind.Tie as tie
+use Rattle.stream.proofs.read_after.Statement.{statement}
+use Rattle.stream.proofs.read_after.Tie as tie
 
 -- a read that failed moves nothing
 failed-moves : (b : Bool) (room : ℕ) → Moves (failedBy b) room
@@ -63,5 +63,5 @@ returns c =
           subst (λ (s : Step). Moves s room) (sym (c .step-of .ensures)) (moves got _ room moved),
     )
 
-pub read-behind-spec : {M : Type 1} → statement M
-read-behind-spec = tie.close (tie.spec sub-read part-read-start part-read-end read-requires errno-requires step-of-requires same-length returns)
+pub read-after-spec : {M : Type 1} → statement M
+read-after-spec = tie.close (tie.spec sub-read part-read-start part-read-end read-requires errno-requires step-of-requires same-length returns)
