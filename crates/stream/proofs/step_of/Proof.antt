@@ -1,7 +1,7 @@
 -- By the sign of what the read answered, and by errno. Assumes nothing.
 use mathlib.Core.Path.{_≡_, refl, sym, ap, subst, _∙_}
-use mathlib.Core.Bool.{Bool, true, false}
-use Prim.Native.Nat.{ℕ, zero, suc}
+use mathlib.Core.Bool.{true, false}
+use Prim.Native.Nat.{zero, suc}
 use native.Mathlib.Omega.{arith}
 use lib.IntN.{ℤ, pos, negsuc, natAbs}
 use lib.Dec.{T, eqb}
@@ -10,8 +10,7 @@ use mir.Syntax.{w32, w64}
 use mir.Val.{toZ, ofZ}
 use mir.Facts.{toZ-ofZ, fits-natAbs, sfits-toZ, fits-ofZ}
 use borrow.Author.Tests.{ltb-false, ne-eqb}
-use Rattle.stream.specs.declared.Step.{Step}
-use Rattle.stream.specs.declared.Step.the-variants.{More, End, Again, Failed}
+use Rattle.stream.specs.declared.Step.the-variants.{More}
 use Rattle.stream.specs.Stream.{stepOf, isInterrupted, failedBy}
 use Rattle.stream.proofs.step_of.Statement.{statement}
 use Rattle.stream.proofs.step_of.Tie as tie

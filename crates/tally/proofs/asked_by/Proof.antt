@@ -1,14 +1,14 @@
 -- By the word's first byte. Assumes nothing.
 use mathlib.Core.Path.{_≡_, sym, ap, subst, _∙_}
 use mathlib.Core.List.{List, [], _∷_}
-use mathlib.Core.Bool.{Bool, true, false}
+use mathlib.Core.Bool.{true, false}
 use lib.Dec.{T}
 use Prim.Native.Nat.{ℕ, _<_}
 use native.Mathlib.Omega.{arith}
 use lib.ListN.{length, getD}
 use borrow.Author.Needs.{needs}
 use Rattle.tally.specs.declared.Asked.the-variants as Asked
-use Rattle.tally.specs.Program.{helpWord, NamesFile, AsksFor}
+use Rattle.tally.specs.Program.{NamesFile, AsksFor}
 use Rattle.tally.proofs.asked_by.Statement.{statement}
 use Rattle.tally.proofs.asked_by.Tie as tie
 

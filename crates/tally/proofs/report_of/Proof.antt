@@ -1,7 +1,6 @@
 -- By what reading gave. Assumes nothing.
-use mathlib.Core.Path.{_≡_, refl, sym, ap, subst, _∙_}
-use mathlib.Core.List.{List}
-use Prim.Native.Nat.{ℕ, _<_, zero-le}
+use mathlib.Core.Path.{refl, sym, ap, subst, _∙_}
+use Prim.Native.Nat.{_<_, zero-le}
 use native.Mathlib.Omega.{arith}
 use lib.Seq.{length-take-le}
 use borrow.Author.Needs.{needs}
