@@ -2,7 +2,8 @@
 -- First the index, from each demand and each sentence of document 01 to what fixes it; where the definitions and the words of the claims stand is listed
 -- below the imports. Assumes nothing.
 --
--- THE INDEX. A name by itself is a theorem of this file (history and tracker are its abbreviations). A name in backquotes is a definition, a row of a table,
+-- THE INDEX. A name by itself is a theorem of this file (history and tracker are its abbreviations) or, if it ends in
+-- -contract, of Tie.antt. A name in backquotes is a definition, a row of a table,
 -- a law, a sample or a function with its contract, and stands in the file behind it, below crates/. A sentence that no theorem fixes says so.
 --
 -- DEMAND 1: any input gets the work, or the refusal that comes first in the paper's order; what is refused changes nothing
@@ -14,7 +15,10 @@
 --     replay-is-starting-and-calls, a-text-that-fits-is-written
 --   refused: refused-start-changes-nothing, refused-call-changes-nothing, a-refused-question-tells-nothing, refused-rank-changes-nothing,
 --     a-refused-n-changes-nothing, a-short-output-keeps-its-bytes
---   of the calls that run: what-start-does, what-enable-does, what-disable-does, what-add-policy-does, what-replay-does, what-tally-does
+--   of the calls that run: what-start-does, what-enable-does, what-disable-does, what-add-policy-does, what-replay-does,
+--     what-tally-writes, what-tally-leaves; that these speak of the contracts: start-contract, enable-contract,
+--     disable-contract, add-policy-contract, tags-of-contract, size-of-contract, is-legal-contract, rank-contract,
+--     replay-contract, tally-contract
 --   after a list of calls no state is refused: no-call-answers-9-or-12, every-question-is-answered, no-other-container-is-told,
 --     the-ranking-is-written; of calls that run: called-answers-no-9-or-12, called-every-question-is-answered, called-no-other-container-is-told,
 --     called-the-ranking-is-written
@@ -84,7 +88,8 @@
 --   each-call-gets-what-was-left; of calls that run `called` (claims/specs/Running.antt), which is told nothing else of the storage
 -- 'Adding a set, once it runs, may stand among them; it is no event': a-call-is-an-add, adding-is-no-event, add-changes-no-set, add-gains-nothing
 -- 'A run over a log whose n and storage are accepted counts, once it runs, as such a starting and the calls of its events': replay-is-starting-and-calls,
---   the-events-done-are-those-that-join, every-replay-can-be-made, every-tally-can-be-made; `replayed`, `tallied` (claims/specs/Running.antt)
+--   the-events-done-are-those-that-join; of those that run a-replay-counts-as-calls, a-tally-counts-as-calls, and that
+--   there are such: every-replay-can-be-made, every-tally-can-be-made, every-replay-begins-calls, every-tally-begins-calls
 -- 'The accepted history of the list is found from n and the calls' arguments alone': history, each-call-asks-for-its-event
 -- 'It is empty at first, with nothing open and greatest number 0': `accepted`, `enabled`, `greatest` (model/specs/Model.antt)
 -- 'An event joins it exactly if none of the refusals applies that stand after 9 and 12 in its order': enable-joins-exactly-if, disable-joins-exactly-if
@@ -181,7 +186,8 @@
 -- 'If its n or the storage is refused the byte and the small numbers are 0 and nothing is written': a-refused-n-changes-nothing, a-replay-begins-exactly-if
 -- 'A run that meets the end of the bytes between records is complete, and its number and byte are 0': an-accepted-log-is-complete,
 --   replay-is-starting-and-calls; `Completes` (replay/specs/Laws.antt)
--- 'A call that runs a log in a lent book leaves that book as the run does, on its later refusals too': tally-leaves-what-the-replay-leaves, what-tally-does
+-- 'A call that runs a log in a lent book leaves that book as the run does, on its later refusals too':
+--   tally-leaves-what-the-replay-leaves, what-tally-leaves
 -- 'Places of an output after the answer are never written': rank-writes-the-ranking, a-text-that-fits-is-written,
 --   writing-answers-10-exactly-if-it-does-not-fit; `overwrite` (leb128/specs/Number.antt)
 --
@@ -245,8 +251,10 @@
 --   the-numbers-tell-replies-apart, the-numbers-tell-answers-apart; of the log `read_record`, `write_record`, `read_head`, `write_head` (eventlog/src/lib.rt),
 --   `record-reading-injective`, `head-reading-injective` (eventlog/specs/Laws.antt)
 -- 'The call's contract gives each result as equal to a definition; should these papers leave an answer free, it is named there': the same contracts, which
---   leave none free; what follows of the call that runs: what-start-does, what-enable-does, what-disable-does, what-add-policy-does, what-replay-does,
---   what-tally-does
+--   leave none free: start-contract, enable-contract, disable-contract, add-policy-contract, tags-of-contract,
+--   size-of-contract, is-legal-contract, rank-contract, replay-contract, tally-contract; what follows of the call that
+--   runs: what-start-does, what-enable-does, what-disable-does, what-add-policy-does, what-replay-does,
+--   what-tally-writes, what-tally-leaves
 -- 'a book that calls every book unsound (demand 1, by the table)': state-is-judged, enable-answers-by-the-table, no-call-answers-9-or-12
 -- 'one that answers each holder's own tag for ever, or never changes (demands 2 and 3)': sets-are-flows, demand-3
 -- 'one that spreads at the first opening and later merely stores channels (2 and 3)': sets-after-an-enable, sets-are-flows, demand-3
@@ -257,7 +265,7 @@
 --
 -- OF NO SENTENCE, but of what the sentences rest on. `apply_enable`, `apply_disable` (calls/src/lib.rt), by which a replay runs, judge no state and are no calls
 --   of the paper: apply-enable-answers-the-first, refused-apply-enable-changes-nothing, apply-disable-answers-the-first,
---   refused-apply-disable-changes-nothing, apply-enable-is-enable, apply-disable-is-disable, what-apply-enable-does, what-apply-disable-does.
+--   refused-apply-disable-changes-nothing, apply-enable-is-enable, apply-disable-is-disable.
 --   `rank_sets` (ranking/src/lib.rt), by which the text is made, judges none either: rank-sets-writes-the-ranking-or-nothing.
 --   The exported functions (foreign/src/lib.rt) are the calls and the reader and writer once more, for other languages: their contracts cite the same definitions
 use mathlib.Core.Path.{_≡_, refl, sym, ap, _∙_, subst}
@@ -305,10 +313,10 @@ use Rattle.propagation.specs.Pass.{pass, adds, passed, passesOf, passCount, set
 use Rattle.propagation.specs.Exact.{pass-has, adds-iff, count-is, passes-some, passes-add, passes-last}
 use Rattle.calls.specs.declared.Reply.{Reply}
 use Rattle.calls.specs.declared.Answered.{Answered}
-use Rattle.calls.specs.Replies.{answerOf, answer-injective, leftBy}
+use Rattle.calls.specs.Replies.{answerOf, answer-injective}
 use Rattle.calls.specs.Unjudged.{applyEnableOf, applyDisableOf}
 use Rattle.calls.specs.UnjudgedLaws.{passes-propagate, passes-gain, apply-enable-refusal, apply-enable-refused, apply-disable-refusal, apply-disable-refused, apply-enable, apply-disable}
-use Rattle.claims.specs.Running.{withNewTable, StartDoes, start-does, EnableDoes, enable-does, DisableDoes, disable-does, AddDoes, add-does, Called, called-is, called-of, called-on, replay-left, tally-left}
+use Rattle.claims.specs.Running.{leaving, StartGave, CallGave, TagsGave, LegalGave, running, ReplayGave, withNewTable, TallyAnswered, TallyWrote, TallyLeft, StartDoes, start-does, EnableDoes, enable-does, DisableDoes, disable-does, AddDoes, add-does, Called, called-is, called-of, called-on, replay-left, tally-left, replay-as-calls, tally-as-calls, replay-begins, tally-begins}
 use Rattle.outcome.specs.Outcome.{Outcome, startOrder, enableLater, disableLater, startOf, propagated, gainOf, enableOf, disableOf, addOf, Call, ask, add, orderOf, outcomeOf, eventsOf, after, configurationOf}
 use Rattle.outcome.specs.Refusals.{start-refusal, start-refused, call-refusal, call-refused}
 use Rattle.outcome.specs.Table.{StartAnswers, start-answers, EnableAnswers, enable-answers, DisableAnswers, disable-answers, AddAnswers, add-answers}
@@ -332,7 +340,7 @@ use Rattle.replay.specs.declared.Containers.{Containers}
 use Rattle.replay.specs.declared.Ending.{Ending}
 use Rattle.replay.specs.declared.Replayed.{Replayed}
 use Rattle.replay.specs.Replay.{Replay, eventIn, callOf, containersIn, replayOf}
-use Rattle.replay.specs.Replies.{endingOf, replayBy, containersOf, ending-injective, containers-injective}
+use Rattle.replay.specs.Replies.{endingOf, containersOf, ending-injective, containers-injective}
 use Rattle.replay.specs.Laws.{AllAccepted, gainsOf, ContainersAnswers, containers-answers, begun-head, replay-not-begun, replay-starts, Replays, replay-does, replay-log, replay-log-refused, replay-usable, replay-containers, replay-beyond}
 use Rattle.replay.specs.Joins.{joining, doneOf, replay-done}
 use Rattle.replay.specs.Numbers.{begins-exactly-if}
@@ -356,8 +364,9 @@ use Rattle.claims.specs.Permission.{takes, givenTo, SameSets, Known, tak
 -- (question/specs/Laws.antt); RankAnswers (ranking/specs/Laws.antt); IsTruncated, IsOverlong (leb128/specs/Refusals.antt); IsPart (Part.antt);
 -- SomeField, IsUnknown (eventlog/specs/Refusals.antt); IsEvent, IsRecord, IsLog, complete (Laws.antt, LogLaws.antt), AreEvents (Records.antt);
 -- ContainersAnswers, AllAccepted, gainsOf, Completes, Stops, Replays (replay/specs/Laws.antt); joining, doneOf (Joins.antt); lineWith, IsLine
--- (tallytext/specs/Words.antt, Laws.antt); takes, givenTo, SameSets, Known (Permission.antt); StartDoes, EventDoes, EnableDoes, DisableDoes, AddDoes,
--- Called, withNewTable (Running.antt); lentFront, frontOf, outcomeBeyond, replayBeyond (front/specs/Front.antt); Standing, Accepted, Occurs, MayEnable,
+-- (tallytext/specs/Words.antt, Laws.antt); takes, givenTo, SameSets, Known (Permission.antt); leaving, running, StartGave,
+-- CallGave, TagsGave, LegalGave, ReplayGave, withNewTable, TallyAnswered, TallyWrote, TallyLeft (what the contracts say),
+-- StartDoes, EventDoes, EnableDoes, DisableDoes, AddDoes, Called (Running.antt); lentFront, frontOf, outcomeBeyond, replayBeyond (front/specs/Front.antt); Standing, Accepted, Occurs, MayEnable,
 -- Within (model/specs/Standing.antt, Histories.antt, Closure.antt).
 
 -- DEMAND 1: the work, or the refusal that comes first in the paper's order; a refused event changes nothing
@@ -909,35 +918,33 @@ the-tags-printed-are-flows bs lent are b c t l =
 pub the-events-printed-are-those-done : (bs : List ℕ) (lent : Storage) → IsBytes bs → containersIn bs lent .refusal ≡ 0 → replayOf bs lent .events ≡ length (doneOf bs)
 the-events-printed-are-those-done bs lent are b = replay-does bs lent are b .events ∙ ap length (replay-done bs lent are b)
 
--- THE RUNNING CALLS (tracker/src/lib.rt). The contract of each is an equation (two, of the ranking): what the call gives back and leaves in the lent lists (`leftBy`) makes up the
--- outcome of its definition, for every number and every content and length of storage. It is the hypothesis here; the reader compares it with the line
--- `ensures` there. So what is claimed above of the definitions is true of the calls, one by one:
+-- THE RUNNING CALLS (tracker/src/lib.rt). The contract of each says that what the call gives back and leaves in the lent
+-- lists (`leaving`) makes up the outcome of its definition, for every number and every content and length of storage. That
+-- is the hypothesis here (`StartGave`, `CallGave` and their like, Running.antt), and Tie.antt says that it is the whole
+-- contract, which requires nothing. So what is claimed above of the definitions is true of the calls, one by one:
 
 -- the numbers that a contract gives determine the reply
 pub the-numbers-tell-replies-apart : (q r : Reply) → answerOf q ≡ answerOf r → q ≡ r
 the-numbers-tell-replies-apart = answer-injective
 
 -- `start`: StartDoes gathers what is claimed of it (demand 1)
-pub what-start-does : (n : ℕ) (lent : Storage) (r : Answered) (tags policies counts : List ℕ) (flows : List Flow) → leftBy r tags policies counts flows ≡ startOf n lent
-    → StartDoes n lent (leftBy r tags policies counts flows)
-what-start-does n lent r tags policies counts flows e = subst (StartDoes n lent) (sym e) (start-does n lent)
+pub what-start-does : (n : ℕ) (lent : Storage) (r : Answered) (left : Storage) → StartGave n lent r left → StartDoes n lent (leaving r left)
+what-start-does n lent r left e = subst (StartDoes n lent) (sym e) (start-does n lent)
 
 -- `enable`: EnableDoes (demands 1 and 2)
-pub what-enable-does : (s : State) (f : Flow) (r : Answered) (tags : List ℕ) (flows : List Flow)
-    → leftBy r tags (s .storage .policies) (s .storage .policyCounts) flows ≡ enableOf s f
-    → EnableDoes s f (leftBy r tags (s .storage .policies) (s .storage .policyCounts) flows)
-what-enable-does s f r tags flows e = subst (EnableDoes s f) (sym e) (enable-does s f)
+pub what-enable-does : (s : State) (f : Flow) (r : Answered) (left : Storage) → CallGave s (ask (enable f)) r left → EnableDoes s f (leaving r left)
+unfolding outcomeOf
+what-enable-does s f r left e = subst (EnableDoes s f) (sym e) (enable-does s f)
 
--- `disable`, which is lent the tag sets to read alone: DisableDoes (demands 1 and 2)
-pub what-disable-does : (s : State) (k : ℕ) (r : Answered) (flows : List Flow)
-    → leftBy r (s .storage .tags) (s .storage .policies) (s .storage .policyCounts) flows ≡ disableOf s k
-    → DisableDoes s k (leftBy r (s .storage .tags) (s .storage .policies) (s .storage .policyCounts) flows)
-what-disable-does s k r flows e = subst (DisableDoes s k) (sym e) (disable-does s k)
+-- `disable`: DisableDoes (demands 1 and 2)
+pub what-disable-does : (s : State) (k : ℕ) (r : Answered) (left : Storage) → CallGave s (ask (disable k)) r left → DisableDoes s k (leaving r left)
+unfolding outcomeOf
+what-disable-does s k r left e = subst (DisableDoes s k) (sym e) (disable-does s k)
 
--- `add_policy`, which is lent the tag sets to read alone: AddDoes (demand 1)
-pub what-add-policy-does : (s : State) (c : ℕ) (p : TagSet) (r : Answered) (policies counts : List ℕ) → leftBy r (s .storage .tags) policies counts (s .storage .flows) ≡ addOf s c p
-    → AddDoes s c p (leftBy r (s .storage .tags) policies counts (s .storage .flows))
-what-add-policy-does s c p r policies counts e = subst (AddDoes s c p) (sym e) (add-does s c p)
+-- `add_policy`: AddDoes (demand 1)
+pub what-add-policy-does : (s : State) (c : ℕ) (p : TagSet) (r : Answered) (left : Storage) → CallGave s (add c p) r left → AddDoes s c p (leaving r left)
+unfolding outcomeOf
+what-add-policy-does s c p r left e = subst (AddDoes s c p) (sym e) (add-does s c p)
 
 -- `apply_enable` and `apply_disable` (calls/src/lib.rt), on a table by value, which judge no state. On every state they answer the first refusal that stands after 9 and 12 in the event's order,
 -- and a refused event changes nothing
@@ -962,16 +969,6 @@ apply-enable-is-enable = apply-enable
 pub apply-disable-is-disable : (s : State) → Usable s → (k : ℕ) → applyDisableOf s k ≡ disableOf s k
 apply-disable-is-disable = apply-disable
 
-pub what-apply-enable-does : (s : State) → Usable s → (f : Flow) → Fit64 (s .storage .tags) → (r : Answered) (tags : List ℕ) (flows : List Flow)
-    → leftBy r tags (s .storage .policies) (s .storage .policyCounts) flows ≡ applyEnableOf s f
-    → EnableDoes s f (leftBy r tags (s .storage .policies) (s .storage .policyCounts) flows)
-what-apply-enable-does s u f w r tags flows e = what-enable-does s f r tags flows (e ∙ apply-enable s u f w)
-
-pub what-apply-disable-does : (s : State) → Usable s → (k : ℕ) (r : Answered) (flows : List Flow)
-    → leftBy r (s .storage .tags) (s .storage .policies) (s .storage .policyCounts) flows ≡ applyDisableOf s k
-    → DisableDoes s k (leftBy r (s .storage .tags) (s .storage .policies) (s .storage .policyCounts) flows)
-what-apply-disable-does s u k r flows e = what-disable-does s k r flows (e ∙ apply-disable s u k)
-
 -- `tags_of`, `size_of`, `is_legal`, `rank`, `read_containers`, `replay`: a contract gives the numbers of the answer (and the output, the lent lists) by the
 -- definition; these determine the answer
 pub the-numbers-tell-answers-apart :
@@ -986,31 +983,36 @@ the-numbers-tell-answers-apart =
     (tags-injective, size-injective, legal-injective, ranked-injective, containers-injective, ending-injective, writing-injective)
 
 -- so of a replay that runs: it is starting and the calls of the events that its bytes hold and that join, or it changes nothing
-pub what-replay-does : (bs : List ℕ) (lent : Storage) (r : Replayed) (tags policies counts : List ℕ) (flows : List Flow) → replayBy r tags policies counts flows ≡ replayOf bs lent
+pub what-replay-does : (bs : List ℕ) (lent : Storage) (r : Replayed) (left : Storage) → ReplayGave bs lent r left
     → ((k : ℕ) → containersIn bs lent .refusal ≡ suc k
-    → replayBy r tags policies counts flows ≡ record { refusal = suc k; byte = 0; events = 0; gain = 0; state = record { header = record { containers = 0; count = 0; greatest = 0 }; storage = lent } })
-    × (IsBytes bs → containersIn bs lent .refusal ≡ 0 → (w : Replays bs (headAt bs .value) lent (replayBy r tags policies counts flows)) × (w .done ≡ doneOf bs))
-what-replay-does bs lent r tags policies counts flows e = (
+    → running r left ≡ record { refusal = suc k; byte = 0; events = 0; gain = 0; state = record { header = record { containers = 0; count = 0; greatest = 0 }; storage = lent } })
+    × (IsBytes bs → containersIn bs lent .refusal ≡ 0 → (w : Replays bs (headAt bs .value) lent (running r left)) × (w .done ≡ doneOf bs))
+what-replay-does bs lent r left e = (
   λ k z. e ∙ replay-not-begun bs lent k z,
   λ are b.
       subst (λ (x : Replay). (w : Replays bs (headAt bs .value) lent x) × (w .done ≡ doneOf bs)) (sym e) (replay-does bs lent are b, replay-done bs lent are b),
 )
 
--- and of `tally` that runs (report/src/lib.rt), in lent lists and a table of its own, of zeros: its text, written whole or not at all, and the tracker as the run leaves it
-pub what-tally-does : (bs lentTags lentPolicies lentCounts out left : List ℕ) (r : Tallied) (tags policies counts : List ℕ)
+-- and of `tally` that runs (report/src/lib.rt), in lent lists and a table of its own, of zeros: its text, written whole or
+-- not at all, and the tracker as the run leaves it
+pub what-tally-writes : (bs lentTags lentPolicies lentCounts out : List ℕ) (r : Tallied) (written : List ℕ)
     → (let lent = withNewTable lentTags lentPolicies lentCounts in
-    writingOf (r .reply) ≡ tallyOf bs lent out .answer → left ≡ tallyOf bs lent out .output → stateOf (r .header) tags policies counts (r .flows) ≡ leftOf bs lent
-    → (length (textOf bs lent) ≤ length out → (writingOf (r .reply) ≡ wrote (length (textOf bs lent))) × (left ≡ textOf bs lent ++ drop (length (textOf bs lent)) out))
-    × (length out < length (textOf bs lent) → (writingOf (r .reply) ≡ unwritten 10) × (left ≡ out))
-    × (length bs ≤ 16384 → stateOf (r .header) tags policies counts (r .flows) ≡ replayOf bs lent .state)
-    × (16384 < length bs → stateOf (r .header) tags policies counts (r .flows) ≡ record { header = record { containers = 0; count = 0; greatest = 0 }; storage = lent }))
-what-tally-does bs lentTags lentPolicies lentCounts out left r tags policies counts a o s =
+    TallyAnswered bs lent out r → TallyWrote bs lent out written
+    → (length (textOf bs lent) ≤ length out → (writingOf (r .reply) ≡ wrote (length (textOf bs lent))) × (written ≡ textOf bs lent ++ drop (length (textOf bs lent)) out))
+    × (length out < length (textOf bs lent) → (writingOf (r .reply) ≡ unwritten 10) × (written ≡ out)))
+what-tally-writes bs lentTags lentPolicies lentCounts out r written a o =
     let lent = withNewTable lentTags lentPolicies lentCounts in (
       λ h. let w = tally-fits bs lent out h in (a ∙ w .0, o ∙ w .1),
       λ h. let w = tally-short bs lent out h in (a ∙ w .0, o ∙ w .1),
-      λ h. s ∙ left-of-replay bs lent h,
-      λ h. s ∙ left-of-long-input bs lent h,
     )
+
+pub what-tally-leaves : (bs lentTags lentPolicies lentCounts : List ℕ) (r : Tallied) (tags policies counts : List ℕ)
+    → (let lent = withNewTable lentTags lentPolicies lentCounts in
+    TallyLeft bs lent r tags policies counts
+    → (length bs ≤ 16384 → stateOf (r .header) tags policies counts (r .flows) ≡ replayOf bs lent .state)
+    × (16384 < length bs → stateOf (r .header) tags policies counts (r .flows) ≡ record { header = record { containers = 0; count = 0; greatest = 0 }; storage = lent }))
+what-tally-leaves bs lentTags lentPolicies lentCounts r tags policies counts s =
+    let lent = withNewTable lentTags lentPolicies lentCounts in (λ h. s ∙ left-of-replay bs lent h, λ h. s ∙ left-of-long-input bs lent h)
 
 -- PROPAGATION runs in passes. One pass gives each container what it had, and what the sources of its edges had when the pass began
 pub a-pass-reads-the-sets-found : (n : ℕ) (es : List (ℕ × ℕ)) (ws : List ℕ) → 4 * n ≤ length ws → (c t : ℕ) → c < n
@@ -1051,28 +1053,50 @@ pub pairs-counted-are-the-gain : (n : ℕ) (fs : List Flow) (ws : List ℕ) → 
     → pairsAdded n fs ws ≡ gainOf n ws (propagated n fs ws)
 pairs-counted-are-the-gain = passes-gain
 
--- CALLS ONE AFTER THE OTHER (`Called`) are known by their contracts alone. These can be met for every list of calls from every start that is accepted; by
--- every replay, and by every `tally` with its text; and then by every list of calls that goes on
+-- CALLS ONE AFTER THE OTHER (`Called`) are known by their contracts alone. These can be met for every list of calls from
+-- every start that is accepted, and then by every list of calls that goes on; by every replay, and by every `tally`
 pub every-list-can-be-called : (n : ℕ) (lent : Storage) → startOf n lent .answer .refusal ≡ 0 → (calls : List Call) → (s : State) × Called n lent calls s
 every-list-can-be-called = called-of
-
-pub every-replay-can-be-made : (bs : List ℕ) (lent : Storage) → IsBytes bs
-    → (r : Replayed)
-    × (replayBy r (replayOf bs lent .state .storage .tags) (replayOf bs lent .state .storage .policies) (replayOf bs lent .state .storage .policyCounts) (replayOf bs lent .state .storage .flows) ≡ replayOf bs lent)
-every-replay-can-be-made = replay-left
-
-pub every-tally-can-be-made : (bs tags policies counts out : List ℕ)
-    → (let lent = withNewTable tags policies counts in
-    (r : Tallied) × (writingOf (r .reply) ≡ tallyOf bs lent out .answer)
-    × (stateOf (r .header) (leftOf bs lent .storage .tags) (leftOf bs lent .storage .policies) (leftOf bs lent .storage .policyCounts) (r .flows) ≡ leftOf bs lent))
-every-tally-can-be-made = tally-left
 
 pub calls-can-go-on : (n : ℕ) (lent : Storage) (done : List Call) (s : State) → Called n lent done s
     → (calls : List Call) → (t : State) × Called n lent (done ++ calls) t
 calls-can-go-on = called-on
 
--- DEMANDS 2 AND 3 of calls made one after the other, which left the state `s`; the list may begin with a replay, or with the
--- tracker that `tally` left, complete or refused partway, and go on
+pub every-replay-can-be-made : (bs : List ℕ) (lent : Storage) → IsBytes bs → (r : Replayed) × ReplayGave bs lent r (replayOf bs lent .state .storage)
+every-replay-can-be-made = replay-left
+
+pub every-tally-can-be-made : (bs tags policies counts out : List ℕ)
+    → (let lent = withNewTable tags policies counts in
+    let x = leftOf bs lent .storage in
+    (r : Tallied) × TallyAnswered bs lent out r × TallyLeft bs lent r (x .tags) (x .policies) (x .policyCounts))
+every-tally-can-be-made = tally-left
+
+-- a replay whose n and storage are accepted, complete or refused partway, counts as a start and the calls of its events: of
+-- those that its bytes hold, the first that join, found from the bytes alone; and so does a `tally`
+pub a-replay-counts-as-calls : (bs : List ℕ) (lent : Storage) → IsBytes bs → containersIn bs lent .refusal ≡ 0
+    → (r : Replayed) (left : Storage) → ReplayGave bs lent r left
+    → Called (headAt bs .value) lent (map callOf (doneOf bs)) (running r left .state)
+a-replay-counts-as-calls = replay-as-calls
+
+pub a-tally-counts-as-calls : (bs lentTags lentPolicies lentCounts : List ℕ)
+    → (let lent = withNewTable lentTags lentPolicies lentCounts in
+    IsBytes bs → containersIn bs lent .refusal ≡ 0 → length bs ≤ 16384
+    → (r : Tallied) (tags policies counts : List ℕ) → TallyLeft bs lent r tags policies counts
+    → Called (headAt bs .value) lent (map callOf (doneOf bs)) (stateOf (r .header) tags policies counts (r .flows)))
+a-tally-counts-as-calls = tally-as-calls
+
+pub every-replay-begins-calls : (bs : List ℕ) (lent : Storage) → IsBytes bs → containersIn bs lent .refusal ≡ 0
+    → (s : State) × Called (headAt bs .value) lent (map callOf (doneOf bs)) s
+every-replay-begins-calls = replay-begins
+
+pub every-tally-begins-calls : (bs tags policies counts : List ℕ)
+    → (let lent = withNewTable tags policies counts in
+    IsBytes bs → containersIn bs lent .refusal ≡ 0 → length bs ≤ 16384
+    → (s : State) × Called (headAt bs .value) lent (map callOf (doneOf bs)) s)
+every-tally-begins-calls = tally-begins
+
+-- DEMANDS 2 AND 3 of calls made one after the other, which left the state `s`; they may be those of a replay, or of a
+-- `tally`, complete or refused partway, and go on
 module _ (n : ℕ) (lent : Storage) (calls : List Call) (s : State) (made : Called n lent calls s) where
   -- it is the tracker of the claims on lists of calls
   same-state : tracker n lent (called-is made .0) calls ≡ s
@@ -1085,9 +1109,9 @@ module _ (n : ℕ) (lent : Storage) (calls : List Call) (s : State) (made : Call
   called-writes-nothing-beyond = rw (sym same-state) (tracker-writes-nothing-beyond n lent (called-is made .0) calls)
 
   -- the next call is refused neither for its storage nor for its state
-  pub called-answers-no-9-or-12 : (c : Call) (r : Answered) (tags policies counts : List ℕ) (flows : List Flow) → leftBy r tags policies counts flows ≡ outcomeOf s c
+  pub called-answers-no-9-or-12 : (c : Call) (r : Answered) (left : Storage) → CallGave s c r left
       → (answerOf (r .reply) .refusal ≢ 9) × (answerOf (r .reply) .refusal ≢ 12)
-  called-answers-no-9-or-12 c r tags policies counts flows q =
+  called-answers-no-9-or-12 c r left q =
       subst (λ (o : Outcome). (o .answer .refusal ≢ 9) × (o .answer .refusal ≢ 12)) (sym q) (usable-answers s c (called-follows .usable))
 
   pub called-sets-are-flows : (c t : ℕ) → c < n → (has (setAt (s .storage .tags) c) t ≡ true) ↔ Flows n (accepted n (eventsOf calls)) t c
@@ -1097,7 +1121,7 @@ module _ (n : ℕ) (lent : Storage) (calls : List Call) (s : State) (made : Call
   called-policy-sets-are-those-given = rw (sym same-state) (policies-are-those-given n lent (called-is made .0) calls)
 
   -- what `tags_of` then tells is Flows, no question about a container below n is refused, and the ranking is written
-  pub called-tags-are-flows : (c t : ℕ) → c < n → (r : Tags) → tagsReply r ≡ tagsOf s c → (has (r .set) t ≡ true) ↔ Flows n (accepted n (eventsOf calls)) t c
+  pub called-tags-are-flows : (c t : ℕ) → c < n → (r : Tags) → TagsGave s c r → (has (r .set) t ≡ true) ↔ Flows n (accepted n (eventsOf calls)) t c
   called-tags-are-flows c t l r e =
       let told : r .set ≡ setAt (s .storage .tags) c = ap (λ (x : Asked TagSet). x .value) e ∙ tags-told s c (answered .0) in
       rw told (called-sets-are-flows c t l)
@@ -1115,15 +1139,15 @@ module _ (n : ℕ) (lent : Storage) (calls : List Call) (s : State) (made : Call
   called-the-ranking-is-written = rw (sym same-state) (rank-is-answered n lent (called-is made .0) calls)
 
   -- the next policy set is accepted exactly if the container takes it
-  pub called-add-accepted-exactly-if-taken : (c : ℕ) (p : TagSet) (r : Answered) (tags policies counts : List ℕ) (flows : List Flow) → leftBy r tags policies counts flows ≡ outcomeOf s (add c p)
+  pub called-add-accepted-exactly-if-taken : (c : ℕ) (p : TagSet) (r : Answered) (left : Storage) → CallGave s (add c p) r left
       → (answerOf (r .reply) .refusal ≡ 0) ↔ (takes n c (givenTo n c [] calls) c p ≡ true)
-  called-add-accepted-exactly-if-taken c p r tags policies counts flows q =
+  called-add-accepted-exactly-if-taken c p r left q =
       subst (λ (o : Outcome). (o .answer .refusal ≡ 0) ↔ (takes n c (givenTo n c [] calls) c p ≡ true)) (sym q)
       (subst (λ (s : State). (outcomeOf s (add c p) .answer .refusal ≡ 0) ↔ (takes n c (givenTo n c [] calls) c p ≡ true)) same-state
       (add-accepted-exactly-if-taken n lent (called-is made .0) calls c p))
 
   -- what `is_legal` then answers
-  pub called-legal-exactly-if-flows-permit : (c : ℕ) → c < n → (r : Legal) → legalReply r ≡ legalOf s c
+  pub called-legal-exactly-if-flows-permit : (c : ℕ) → c < n → (r : Legal) → LegalGave s c r
       → (legalReply r ≡ told true) ↔ ((p : TagSet) × (p ∈ givenTo n c [] calls) × ((t : ℕ) → Flows n (accepted n (eventsOf calls)) t c → has p t ≡ true))
   called-legal-exactly-if-flows-permit c l r e =
       rw e
@@ -1133,9 +1157,9 @@ module _ (n : ℕ) (lent : Storage) (calls : List Call) (s : State) (made : Call
       same-state (legal-exactly-if-given n lent (called-is made .0) calls c l))
 
   -- the next call that runs, whatever its event, is accepted exactly if the event joins
-  pub called-accepted-exactly-if-it-joins : (e : Event) (r : Answered) (tags policies counts : List ℕ) (flows : List Flow) → leftBy r tags policies counts flows ≡ outcomeOf s (ask e)
+  pub called-accepted-exactly-if-it-joins : (e : Event) (r : Answered) (left : Storage) → CallGave s (ask e) r left
       → (answerOf (r .reply) .refusal ≡ 0) ↔ (joins n (accepted n (eventsOf calls)) e ≡ true)
-  called-accepted-exactly-if-it-joins e r tags policies counts flows q =
+  called-accepted-exactly-if-it-joins e r left q =
       subst (λ (o : Outcome). (o .answer .refusal ≡ 0) ↔ (joins n (accepted n (eventsOf calls)) e ≡ true)) (sym q)
       (subst (λ (s : State). (outcomeOf s (ask e) .answer .refusal ≡ 0) ↔ (joins n (accepted n (eventsOf calls)) e ≡ true)) same-state
       (accepted-exactly-if-it-joins n lent (called-is made .0) calls e))

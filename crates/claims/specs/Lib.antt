@@ -2,3 +2,4 @@ pub mod Samples
 pub mod Permission
 pub mod Claims
 pub mod Running
+pub mod Tie

@@ -1,6 +1,6 @@
 -- The running calls. A call's contract (tracker/src/lib.rt) says that what it gives back and leaves makes up the outcome of its definition; so all that is
 -- claimed of the outcome is true of the call. Gathered here for each call, and for calls one after the other. Assumes nothing.
-use mathlib.Core.Path.{_≡_, refl, sym, ap, ap₂, _∙_, subst}
+use mathlib.Core.Path.{_≡_, refl, sym, ap, _∙_, subst}
 use mathlib.Core.List.{List, [], _∷_, _++_, map, append-assoc, append-nil}
 use mathlib.Core.Logic.{_↔_, _≢_, by-cases}
 use Prim.Native.Nat.{ℕ, zero, suc, _+_, _≤_}
@@ -18,6 +18,10 @@ use Rattle.calls.specs.declared.Answered.{Answered}
 use Rattle.calls.specs.declared.Reply.{Reply}
 use Rattle.calls.specs.declared.Reply.the-variants.{Accepted, NoSuchContainer, SelfFlow, StaleNumber, TableFull, NotEnabled, BadSize, PolicyFull, InvalidState}
 use Rattle.calls.specs.Replies.{answerOf, givenBack, leftBy}
+use Rattle.question.specs.declared.Tags.{Tags}
+use Rattle.question.specs.declared.Legal.{Legal}
+use Rattle.question.specs.Question.{tagsOf, legalOf}
+use Rattle.question.specs.Replies.{tagsReply, legalReply}
 use Rattle.leb128.specs.declared.Encoded.{Encoded}
 use Rattle.leb128.specs.declared.Encoded.the-variants.{Next, ShortOutput}
 use Rattle.leb128.specs.Answer.{writingOf}
@@ -42,6 +46,50 @@ use Rattle.outcome.specs.Table.{StartAnswers, start-answers, EnableAnswers, ena
 use Rattle.outcome.specs.Policies.{PolicyAdded}
 use Rattle.outcome.specs.Steps.{start-makes-usable, call-leaves-usable, call-keeps, Sentence, enable-sentence, disable-sentence, IsStarted, start-is-started, FlowsChanged, enable-flows, disable-flows, add-so}
 use Rattle.outcome.specs.Effects.{SameBeyond, disable-tags, add-tags, enable-gain, disable-gain, add-gain, start-beyond, call-beyond, start-gains-nothing, gain-counted, start-fits, call-fits}
+
+-- WHAT THE CONTRACTS SAY, of what a call gave back and of the lists as it left them: an equation with the call's
+-- definition. Tie.antt: the clauses of each call are this, and nothing is required. So a hypothesis of the claims on
+-- running calls is what the contract of the call ensures
+
+-- the outcome that an answer and the lists make up
+abbrev pub leaving : Answered → Storage → Outcome
+leaving r left = leftBy r (left .tags) (left .policies) (left .policyCounts) (left .flows)
+
+-- `start`
+abbrev pub StartGave : ℕ → Storage → Answered → Storage → Type 0
+StartGave n lent r left = leaving r left ≡ startOf n lent
+
+-- `enable`, `disable`, `add_policy`
+abbrev pub CallGave : State → Call → Answered → Storage → Type 0
+CallGave s c r left = leaving r left ≡ outcomeOf s c
+
+-- `tags_of` and `is_legal`
+abbrev pub TagsGave : State → ℕ → Tags → Type 0
+TagsGave s c r = tagsReply r ≡ tagsOf s c
+
+abbrev pub LegalGave : State → ℕ → Legal → Type 0
+LegalGave s c r = legalReply r ≡ legalOf s c
+
+-- `replay`: the run that its answer and the lists make up
+abbrev pub running : Replayed → Storage → Replay
+running r left = replayBy r (left .tags) (left .policies) (left .policyCounts) (left .flows)
+
+abbrev pub ReplayGave : List ℕ → Storage → Replayed → Storage → Type 0
+ReplayGave bs lent r left = running r left ≡ replayOf bs lent
+
+-- `tally`, in lent lists and a new table of its own: its answer, the output that it wrote, and the
+-- tracker that it left
+abbrev pub withNewTable : List ℕ → List ℕ → List ℕ → Storage
+withNewTable tags policies counts = storageOf tags policies counts (replicate 512 noFlow)
+
+abbrev pub TallyAnswered : List ℕ → Storage → List ℕ → Tallied → Type 0
+TallyAnswered bs lent out r = writingOf (r .reply) ≡ tallyOf bs lent out .answer
+
+abbrev pub TallyWrote : List ℕ → Storage → List ℕ → List ℕ → Type 0
+TallyWrote bs lent out written = written ≡ tallyOf bs lent out .output
+
+abbrev pub TallyLeft : List ℕ → Storage → Tallied → List ℕ → List ℕ → List ℕ → Type 0
+TallyLeft bs lent r tags policies counts = stateOf (r .header) tags policies counts (r .flows) ≡ leftOf bs lent
 
 -- START: what is true of its outcome
 pub record StartDoes (n : ℕ) (lent : Storage) (o : Outcome) : Type 0 where
@@ -156,26 +204,14 @@ add-does s c p =
       keeps-valid = call-keeps IsValid s (add c p) (λ s u. u .valid);
     }
 
--- the storage that `tally` runs in: these lists, and a new table of its own
-abbrev pub withNewTable : List ℕ → List ℕ → List ℕ → Storage
-withNewTable tags policies counts = storageOf tags policies counts (replicate 512 noFlow)
-
--- CALLS ONE AFTER THE OTHER: a start that was accepted, or a replay or a `tally` whose n and storage were, complete or refused partway; then calls, each on the header
--- that the call before gave back and the lists that it left, refused or not. What is known of each call is its contract's equation alone. A replay counts as
--- starting and the calls of its events: of those that its bytes hold, the first that join (`doneOf`), found from the bytes alone
+-- CALLS ONE AFTER THE OTHER: a start that was accepted, then calls, each on the header that the call before gave back and
+-- the lists that it left, refused or not. What is known of each call is what its contract says, and no more
 pub data Called (n : ℕ) (lent : Storage) : List Call → State → Type 0 where
-  begun : (r : Answered) (tags policies counts : List ℕ) (flows : List Flow) → leftBy r tags policies counts flows ≡ startOf n lent → answerOf (r .reply) .refusal ≡ 0
-      → Called n lent [] (leftBy r tags policies counts flows .state)
-  replayed : (bs : List ℕ) (are : IsBytes bs) (accepts : containersIn bs lent .refusal ≡ 0) → headAt bs .value ≡ n
-      → (r : Replayed) (tags policies counts : List ℕ) (flows : List Flow) → replayBy r tags policies counts flows ≡ replayOf bs lent
-      → Called n lent (map callOf (doneOf bs)) (replayBy r tags policies counts flows .state)
-  tallied : (bs : List ℕ) (are : IsBytes bs) (accepts : containersIn bs lent .refusal ≡ 0) → headAt bs .value ≡ n → length bs ≤ 16384
-      → lent ≡ withNewTable (lent .tags) (lent .policies) (lent .policyCounts)
-      → (r : Tallied) (tags policies counts : List ℕ) → stateOf (r .header) tags policies counts (r .flows) ≡ leftOf bs lent
-      → Called n lent (map callOf (doneOf bs)) (stateOf (r .header) tags policies counts (r .flows))
-  called : {cs : List Call} {s : State} → Called n lent cs s → (c : Call) (r : Answered) (tags policies counts : List ℕ) (flows : List Flow)
-      → leftBy r tags policies counts flows ≡ outcomeOf s c
-      → Called n lent (cs ++ (c ∷ [])) (leftBy r tags policies counts flows .state)
+  begun : (r : Answered) (left : Storage) → StartGave n lent r left → answerOf (r .reply) .refusal ≡ 0
+      → Called n lent [] (leaving r left .state)
+  called : {cs : List Call} {s : State} → Called n lent cs s
+      → (c : Call) (r : Answered) (left : Storage) → CallGave s c r left
+      → Called n lent (cs ++ (c ∷ [])) (leaving r left .state)
 
 -- one call more at the end of a list
 after-last : (cs : List Call) (s : State) (c : Call) → after s (cs ++ (c ∷ [])) ≡ outcomeOf (after s cs) c .state
@@ -183,25 +219,12 @@ unfolding after
 after-last [] s c = refl
 after-last (d ∷ cs) s c = after-last cs (outcomeOf s d .state) c
 
--- what a replay leaves, by starting and the calls of its events
-replayed-is : (bs : List ℕ) (lent : Storage) (are : IsBytes bs) (accepts : containersIn bs lent .refusal ≡ 0) {n : ℕ} → headAt bs .value ≡ n
-    → (startOf n lent .answer .refusal ≡ 0) × (replayOf bs lent .state ≡ after (startOf n lent .state) (map callOf (doneOf bs)))
-replayed-is bs lent are accepts e = (
-  ap (λ (m : ℕ). startOf m lent .answer .refusal) (sym e) ∙ replay-starts bs lent accepts,
-  replay-does bs lent are accepts .state
-      ∙ ap₂ (λ (m : ℕ) (es : List LogEvent). after (startOf m lent .state) (map callOf es)) e (replay-done bs lent are accepts),
-)
-
 -- the state that they left is that of the definitions
 pub called-is : {n : ℕ} {lent : Storage} {cs : List Call} {s : State} → Called n lent cs s
     → (startOf n lent .answer .refusal ≡ 0) × (s ≡ after (startOf n lent .state) cs)
 unfolding after
-called-is (begun r tags policies counts flows e a) = (ap (λ (o : Outcome). o .answer .refusal) (sym e) ∙ a, ap (λ (o : Outcome). o .state) e)
-called-is {n} {lent} (replayed bs are accepts e r tags policies counts flows q) =
-    let w = replayed-is bs lent are accepts e in (w .0, ap (λ (x : Replay). x .state) q ∙ w .1)
-called-is {n} {lent} (tallied bs are accepts e short new r tags policies counts q) =
-    let w = replayed-is bs lent are accepts e in (w .0, q ∙ left-of-replay bs lent short ∙ w .1)
-called-is {n} {lent} (called {cs} {s} x c r tags policies counts flows e) =
+called-is (begun r left e a) = (ap (λ (o : Outcome). o .answer .refusal) (sym e) ∙ a, ap (λ (o : Outcome). o .state) e)
+called-is {n} {lent} (called {cs} {s} x c r left e) =
     let w = called-is x in
     (w .0, ap (λ (o : Outcome). o .state) e ∙ ap (λ (t : State). outcomeOf t c .state) (w .1) ∙ sym (after-last cs (startOf n lent .state) c))
 
@@ -247,8 +270,8 @@ call-reply s (ask (enable f)) = enable-reply s f (enable-answers s f (enableOf s
 call-reply s (ask (disable k)) = disable-reply s k (disable-answers s k (disableOf s k .answer .refusal) .0 refl) (λ n. call-unaccepted s (ask (disable k)) n .1)
 call-reply s (add c p) = add-reply s c p (add-answers s c p (addOf s c p .answer .refusal) .0 refl) (λ n. call-unaccepted s (add c p) n .1)
 
--- the outcome of a call is left by some answer and words
-call-left : (s : State) (c : Call) → (r : Answered) × (leftBy r (outcomeOf s c .state .storage .tags) (outcomeOf s c .state .storage .policies) (outcomeOf s c .state .storage .policyCounts) (outcomeOf s c .state .storage .flows) ≡ outcomeOf s c)
+-- the outcome of a call is left by some answer
+call-left : (s : State) (c : Call) → (r : Answered) × CallGave s c r (outcomeOf s c .state .storage)
 call-left s c =
     let o = outcomeOf s c in
     let w = call-reply s c in
@@ -268,9 +291,7 @@ ending-of (suc (suc (suc (suc (suc (suc (suc (suc zero)))))))) l = (EndNotEnable
 ending-of (suc (suc (suc (suc (suc (suc (suc (suc (suc zero))))))))) l = (EndBadSize, refl)
 ending-of (suc (suc (suc (suc (suc (suc (suc (suc (suc (suc k)))))))))) l = absurd (omega (arith, l))
 
-pub replay-left : (bs : List ℕ) (lent : Storage) → IsBytes bs
-    → (r : Replayed)
-    × (replayBy r (replayOf bs lent .state .storage .tags) (replayOf bs lent .state .storage .policies) (replayOf bs lent .state .storage .policyCounts) (replayOf bs lent .state .storage .flows) ≡ replayOf bs lent)
+pub replay-left : (bs : List ℕ) (lent : Storage) → IsBytes bs → (r : Replayed) × ReplayGave bs lent r (replayOf bs lent .state .storage)
 replay-left bs lent are =
     let x = replayOf bs lent in
     let e = ending-of (x .refusal) (replay-refusal bs lent are) in (
@@ -289,15 +310,15 @@ pub called-on : (n : ℕ) (lent : Storage) (done : List Call) (s : State) → Ca
 called-on n lent done s x [] = (s, subst (λ (ds : List Call). Called n lent ds s) (sym (append-nil done)) x)
 called-on n lent done s x (c ∷ cs) =
     let w = call-left s c in
-    let y = called-on n lent (done ++ (c ∷ [])) _ (called x c (w .0) _ _ _ _ (w .1)) cs in
+    let y = called-on n lent (done ++ (c ∷ [])) _ (called x c (w .0) _ (w .1)) cs in
     (y .0, subst (λ (ds : List Call). Called n lent ds (y .0)) (append-assoc done (c ∷ []) cs) (y .1))
 
 -- so every list of calls can be called, from every start that is accepted
 pub called-of : (n : ℕ) (lent : Storage) → startOf n lent .answer .refusal ≡ 0 → (cs : List Call) → (s : State) × Called n lent cs s
 called-of n lent a cs =
     called-on n lent [] _
-    (begun (givenBack (Accepted (o .answer .gain)) (o .state .header)) (o .state .storage .tags) (o .state .storage .policies)
-    (o .state .storage .policyCounts) (o .state .storage .flows) (λ i. record { answer = record { refusal = sym a i; gain = o .answer .gain }; state = o .state }) refl)
+    (begun (givenBack (Accepted (o .answer .gain)) (o .state .header)) (o .state .storage)
+    (λ i. record { answer = record { refusal = sym a i; gain = o .answer .gain }; state = o .state }) refl)
     cs
   where
     o : Outcome
@@ -306,9 +327,48 @@ called-of n lent a cs =
 -- what a `tally` writes and leaves is given back by some answer
 pub tally-left : (bs tags policies counts out : List ℕ)
     → (let lent = withNewTable tags policies counts in
-    (r : Tallied) × (writingOf (r .reply) ≡ tallyOf bs lent out .answer)
-    × (stateOf (r .header) (leftOf bs lent .storage .tags) (leftOf bs lent .storage .policies) (leftOf bs lent .storage .policyCounts) (r .flows) ≡ leftOf bs lent))
+    let x = leftOf bs lent .storage in
+    (r : Tallied) × TallyAnswered bs lent out r × TallyLeft bs lent r (x .tags) (x .policies) (x .policyCounts))
 tally-left bs tags policies counts out =
     let lent = withNewTable tags policies counts in
     let x = leftOf bs lent in
     let w = written-by out 0 (textOf bs lent) in (record { reply = w .0; header = x .header; flows = x .storage .flows }, w .1, refl)
+
+-- A REPLAY, OR A `tally`, COUNTS AS SUCH CALLS: a start and the calls of its events, of those that its bytes hold the first
+-- that join (`doneOf`), found from the bytes alone
+
+-- where n and the storage are accepted, calls that left what the run leaves
+as-called : (bs : List ℕ) (lent : Storage) → IsBytes bs → containersIn bs lent .refusal ≡ 0
+    → {s : State} → s ≡ replayOf bs lent .state → Called (headAt bs .value) lent (map callOf (doneOf bs)) s
+as-called bs lent are a e =
+    let n = headAt bs .value in
+    let cs = map callOf (doneOf bs) in
+    let x = called-of n lent (replay-starts bs lent a) cs in
+    let run : replayOf bs lent .state ≡ after (startOf n lent .state) cs =
+    replay-does bs lent are a .state ∙ ap (λ (es : List LogEvent). after (startOf n lent .state) (map callOf es)) (replay-done bs lent are a) in
+    subst (Called n lent cs) (called-is (x .1) .1 ∙ sym (e ∙ run)) (x .1)
+
+pub replay-as-calls : (bs : List ℕ) (lent : Storage) → IsBytes bs → containersIn bs lent .refusal ≡ 0
+    → (r : Replayed) (left : Storage) → ReplayGave bs lent r left
+    → Called (headAt bs .value) lent (map callOf (doneOf bs)) (running r left .state)
+replay-as-calls bs lent are a r left e = as-called bs lent are a (ap (λ (x : Replay). x .state) e)
+
+pub tally-as-calls : (bs lentTags lentPolicies lentCounts : List ℕ)
+    → (let lent = withNewTable lentTags lentPolicies lentCounts in
+    IsBytes bs → containersIn bs lent .refusal ≡ 0 → length bs ≤ 16384
+    → (r : Tallied) (tags policies counts : List ℕ) → TallyLeft bs lent r tags policies counts
+    → Called (headAt bs .value) lent (map callOf (doneOf bs)) (stateOf (r .header) tags policies counts (r .flows)))
+tally-as-calls bs lentTags lentPolicies lentCounts are a short r tags policies counts e =
+    let lent = withNewTable lentTags lentPolicies lentCounts in as-called bs lent are a (e ∙ left-of-replay bs lent short)
+
+-- and there are such calls, for every replay and every `tally` whose n and storage are accepted
+pub replay-begins : (bs : List ℕ) (lent : Storage) → IsBytes bs → containersIn bs lent .refusal ≡ 0
+    → (s : State) × Called (headAt bs .value) lent (map callOf (doneOf bs)) s
+replay-begins bs lent are a = let w = replay-left bs lent are in (_, replay-as-calls bs lent are a (w .0) _ (w .1))
+
+pub tally-begins : (bs tags policies counts : List ℕ)
+    → (let lent = withNewTable tags policies counts in
+    IsBytes bs → containersIn bs lent .refusal ≡ 0 → length bs ≤ 16384
+    → (s : State) × Called (headAt bs .value) lent (map callOf (doneOf bs)) s)
+tally-begins bs tags policies counts are a short =
+    let w = tally-left bs tags policies counts [] in (_, tally-as-calls bs tags policies counts are a short (w .0) _ _ _ (w .2))
