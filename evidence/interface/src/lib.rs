@@ -68,14 +68,20 @@ pub trait Implementation {
     /// Writes the ranking at the start of `out`.
     fn rank(&self, header: Header, lent: &Lent, out: &mut [u16]) -> Result<(), u32>;
     fn replay(&self, bytes: &[u8], lent: &mut Lent) -> Replayed;
-    /// The number at `at`, and the position after it.
-    fn decode(&self, bytes: &[u8], at: usize) -> Result<(u32, usize), u32>;
+    /// The number of at most `width` bits at `at`, and the position after it. A width above 64 counts as 64.
+    fn decode(&self, bytes: &[u8], at: usize, width: u32) -> Result<(u64, usize), u32>;
     /// Writes the number at `at`, and answers the position after it.
-    fn encode(&self, value: u32, out: &mut [u8], at: usize) -> Result<usize, u32>;
+    fn encode(&self, value: u64, out: &mut [u8], at: usize) -> Result<usize, u32>;
+    /// n at the start of a log, which is not judged, and the position of the first record.
+    fn read_head(&self, bytes: &[u8]) -> Result<(u32, usize), u32>;
+    /// Writes n at the start of a log, and answers the position of the first record. n is not judged.
+    fn write_head(&self, n: u32, out: &mut [u8]) -> Result<usize, u32>;
     /// The record at `at`, and the position after it.
     fn read_record(&self, bytes: &[u8], at: usize) -> Result<(Event, usize), u32>;
     /// Writes the record at `at`, and answers the position after it.
     fn write_record(&self, event: Event, out: &mut [u8], at: usize) -> Result<usize, u32>;
+    /// How many bytes the record takes.
+    fn record_len(&self, event: Event) -> usize;
     /// Writes the text that the program `tally` prints for this input at the start of `out`, and answers its length; 10 where it does not fit.
     fn tally(&self, bytes: &[u8], out: &mut [u8]) -> Result<usize, u32>;
 }
