@@ -30,13 +30,14 @@
 -- DEMAND 3: the runs of the accepted history, compared with the book: demand-3; of calls that run called-demand-3
 --
 -- THE FIRST LINES
--- 'The model is that of source document 000', 'Document 000 decides what a tag set holds': `Enabled*`, `Flows`, `Execution` (model/specs/Model.antt);
---   no-flow-is-missed, no-flow-is-invented
+-- 'The model is that of source document 000 (Rfblare, SEFM 2017), sections 3.1 and 3.2', 'Document 000 decides what a tag set holds': `Enabled*`, `Flows`,
+--   `Execution` (model/specs/Model.antt); no-flow-is-missed, no-flow-is-invented
 -- 'The permission rule is from source document 001': legal-rule
 -- 'This paper decides event numbers, limits and the log': no statement on the product; what it decides is below
 --
 -- WORDS
--- 'A holder is anything that holds DNA readings or data': no statement on the product, for which a holder is a number below n
+-- 'A holder is anything that holds DNA readings or data: tube, well, file, job memory, list (document 000: container)': no statement on the product, for which
+--   a holder is a number below n
 -- 'A book has n holders, n from 1 to 256, numbered from 0': size-is-judged, every-question-is-answered, no-other-container-is-told
 -- 'Each holder's tag is its own number': start-makes-it-new, flows-of-no-event
 -- 'A channel (flow) goes from one holder to another and has a number from 1 to 4,294,967,295': enable-joins-exactly-if, greatest-is-greatest (from 1);
@@ -220,11 +221,11 @@
 --   `samples` (claims/specs/Samples.antt); run by the program itself, tally/stdin and tally/stdout
 --
 -- SAMPLES. Those marked P are rows of `samples`, which `samples-hold` computes (claims/specs/Samples.antt); the rows from the 16th on are not the paper's
--- 'n 3, no event': row 1
+-- 'n 3, no event: sets {0}, {1}, {2}': row 1
 -- 'the example above; gains 1, 1, 0, 4, 0, 0, 4, 0': rows 2 and 3
 -- 'open 1 to 2, close it, open 0 to 1': row 4
 -- 'open 1 to 2, then 0 to 1, both left open': row 5
--- 'open 0 to 1, 1 to 2, 2 to 0': row 6
+-- 'open 0 to 1, 1 to 2, 2 to 0: gains 1, 2, 3; all have {0, 1, 2}': row 6
 -- 'open 0 to 1 as 1 and as 2, close 1, open 2 to 0 as 3': row 7
 -- '127 is byte 127; 128 is 128 1; 4,294,967,295 is 255 255 255 255 15': rows 8 to 10
 -- '128 0 and 255 255 255 255 16 give 2; 128 alone gives 1': rows 11 to 13
@@ -238,12 +239,25 @@
 -- 'Dropping an edge at the first closing of two alike channels': enabled-is-standing; model/must-fail/disable_drops_alike_flows.edit
 -- 'Uniting the permitted sets before comparing': legal-rule; question/must-fail/policy_sets_united.edit
 --
--- THE FORMS WE EXPECT are forms of the code: docs/DECISIONS.md at the root, under Forms of document 01. What they ask to be proved:
+-- THE FORMS WE EXPECT are forms of the code: docs/DECISIONS.md at the root, under Forms of document 01
+-- 'Each place below takes the form we name, from the start, even where the planning page would advise another', 'We read the code as well as the proofs',
+--   'A line marked (02) takes its form when that request lands': no statement on the product
+-- 'match on the call number with ranges chooses direction, two-way, or open and close in one step': no function; its place comes with request 7 of document 02
 -- 'pairs added while spreading are counted and proved equal to the before and after difference': pairs-counted-are-the-gain
+-- 'passes over channels inside an outer loop that is left by a label when nothing is added': no theorem; `make_passes` (propagation/src/lib.rt)
+-- 'struct holding [u64; 4], passed and returned by value; union, subset and membership are its methods': no theorem; `TagSet`, `union`, `is_subset`, `contains`
+--   (tagset/src/lib.rt)
+-- 'number reader's enum answer taken apart by let .. else, refusal returned directly': no theorem; `read_record`, `read_enable`, `read_disable`
+--   (eventlog/src/lib.rt)
 -- 'count of ones on each word, summed and proved equal to the count of set members': size-is-the-number-of-ones
+-- 'number and set crates below, log reader and tracker above, the program on top': no theorem; crates.txt at the root
+-- 'The following places have long proofs done by hand, but they too take the named form once the core is complete', 'slice of channel structs for append,
+--   shift down and one scan, kept thin, after the core is proved': no theorem; `load`, `store` (flowslice/src/lib.rt)
 -- 'For every case of an enum answer, a definition gives this paper's number and values': `answerOf` (calls/specs/Replies.antt), `tagsReply`, `sizeReply`,
 --   `legalReply` (question/specs/Replies.antt), `rankedReply` (ranking/specs/Replies.antt), `endingOf`, `containersOf` (replay/specs/Replies.antt),
 --   `readingOf`, `writingOf` (leb128/specs/Answer.antt), `recordReadingOf`, `headReadingOf` (eventlog/specs/Answer.antt)
+-- 'The promises use that definition': no theorem, but each contract that answers such an enum: those named next
+-- 'If a form is not available today, docs/DECISIONS.md says which form it is and what stands in for it': docs/DECISIONS.md at the root
 --
 -- AGREED BETWEEN LAB AND BUILDERS
 -- 'every public call has a stated outcome, and that for each input it determines the answer and each byte and word lent, on refusal too': the contracts of
