@@ -28,8 +28,8 @@ class Declaration:
     around: tuple = ()
 
     def lines(self, whole):
-        """The numbers of its lines, with those of the module that it stands in; whole, or those that state it."""
-        rows = self.head + (self.body if whole else [])
+        """The numbers of its lines and of those of the modules around it; of a law those that state it, unless whole."""
+        rows = self.head + (self.body if whole or self.kind in TYPES else [])
         return {line.number for part in (rows, *self.around) for line in part}
 
 
