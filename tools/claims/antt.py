@@ -28,7 +28,7 @@ class Declaration:
     around: tuple = ()
 
     def lines(self, whole):
-        """The numbers of its lines and of those of the modules around it; of a law those that state it, unless whole."""
+        """The numbers of its lines, and of those of the modules around it; unless whole, those that state it."""
         rows = self.head + (self.body if whole or self.kind in TYPES else [])
         return {line.number for part in (rows, *self.around) for line in part}
 

@@ -85,8 +85,10 @@ def spans(numbers):
 
 
 def listed(part):
+    """Each declaration, with its file and its lines."""
     for one, whole in part:
-        print(f"    {one.file}: {one.name} ({'whole' if whole else 'stated'}) {spans(one.lines(whole))}")
+        how = "contract" if one.kind == "fn" else "whole" if whole else "statement"
+        print(f"    {one.file}: {one.name} ({how}) {spans(one.lines(whole))}")
 
 
 def row(repository, name, found):

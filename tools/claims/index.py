@@ -176,30 +176,25 @@ def faults(sources, text):
 
 
 def chosen(text):
-    """A theorem, a quotation, a name with its file, and an edit, as the index has them."""
+    """A theorem, a name with its file, and an edit, as the index has them."""
     index, head = Index(text), text.split("\nuse ", 1)[0]
     name = next(name for _, name in index.names if "-" in name)
-    said = next(said for _, said in index.quotations if f"'{said}'" in head and len(said.split()) > 4)
     cited = next((name, path) for _, name, path in index.cited if f"`{name}` ({path})" in head)
-    return name, said, cited, next(path for _, path, _ in index.paths if path.endswith(".edit"))
+    return name, cited, next(path for _, path, _ in index.paths if path.endswith(".edit"))
 
 
-def wrong_copies(text):
-    """Wrong copies of the claims: what is wrong, the copy, and what has to be told of it."""
-    head, body = text.split("\nuse ", 1)
-    name, said, (cited, path), edit = chosen(text)
+def wrong_names(text, head, body):
+    """Copies with a wrong name or path: what is wrong, the copy, and what has to be told of it."""
+    name, (cited, path), edit = chosen(text)
     copy = lambda old, new: head.replace(old, new) + "\nuse " + body
-    other = "refusal/specs/Lib.antt"
+    other, more = "refusal/specs/Lib.antt", "one-more is not in the index"
     return [
         ("a theorem that the index lacks", copy(name, ""), f"{name} is not in the index"),
-        ("a theorem more", text + "\npub one-more : Type 0\n", "one-more is not in the index"),
-        ("an abbreviation more", text + "\nabbrev pub more : Type 0\nmore = ℕ\n", "more is not in the index"),
-        ("one more in a module", text + "\nmodule _ (n : ℕ) where\n  pub one-more : ℕ\n", "one-more is not in the index"),
+        ("a theorem more", text + "\npub one-more : Type 0\n", more),
+        ("an abbreviation more", text + "\nabbrev pub one-more : Type 0\none-more = ℕ\n", more),
+        ("a theorem more in a module", text + "\nmodule _ (n : ℕ) where\n  pub one-more : ℕ\n", more),
         ("a name of no theorem", copy(name, name + "-not"), f"no theorem {name}-not"),
         ("a word that is no theorem", copy(name, "unknown"), "no theorem unknown"),
-        ("a changed quotation", copy(f"'{said}'", f"'{said} not'"), f"not in the papers: {said} not"),
-        ("a part of a word", copy(f"'{said}'", f"'{said[:-1]}'"), f"not in the papers: {said[:-1]}"),
-        ("a sentence not quoted", copy(f"'{said}'", ""), f"no quotation of: {papers.folded(said)}"),
         ("a name in the wrong file", copy(f"`{cited}` ({path})", f"`{cited}` ({other})"), f"no {cited} in {other}"),
         ("a name that there is not", copy(f"`{cited}`", f"`{cited}s`"), f"no {cited}s in"),
         ("a name without a file", f"{head}\n-- more: `{cited}`\nuse {body}", f"no file behind `{cited}`"),
@@ -208,10 +203,29 @@ def wrong_copies(text):
     ]
 
 
+def wrong_quotations(text, head, body):
+    """Copies with a wrong quotation, in the same way; one has an apostrophe, one goes over two lines."""
+    quotations = [said for _, said in Index(text).quotations if len(said.split()) > 4]
+    said = next(said for said in quotations if f"'{said}'" in head)
+    owned = next(said for said in quotations if "' " in said and f"'{said}'" in head)
+    wrapped = next(said for said in quotations if said not in head)
+    copy = lambda old, new: head.replace(old, new) + "\nuse " + body
+    return [
+        ("a changed quotation", copy(f"'{said}'", f"'{said} not'"), f"not in the papers: {said} not"),
+        ("a part of a word", copy(f"'{said}'", f"'{said[:-1]}'"), f"not in the papers: {said[:-1]}"),
+        ("a sentence not quoted", copy(f"'{said}'", ""), f"no quotation of: {papers.folded(said)}"),
+        ("a part left out without a mark", copy(" [..] ", " "), "not in the papers: "),
+        ("an apostrophe", copy(f"'{owned}'", f"'{owned} not'"), f"not in the papers: {owned} not"),
+        ("a wrapped quotation", copy(wrapped.split()[-1] + "'", "not'"), f"not in the papers: {wrapped[:20]}"),
+    ]
+
+
 def self_test(sources, text):
     """Whether each wrong copy is told of; the right one is not."""
     missed = [f"told of the right index: {fault}" for fault in faults(sources, text)[0]]
-    copies = wrong_copies(sources.text(CLAIMS[0]))
+    whole = sources.text(CLAIMS[0])
+    parts = whole.split("\nuse ", 1)
+    copies = wrong_names(whole, *parts) + wrong_quotations(whole, *parts)
     for name, copy, told in copies:
         found = faults(sources.with_text(CLAIMS[0], copy), text)[0]
         if not any(told in fault for _, _, fault in found):

@@ -23,6 +23,7 @@ class Repository:
         for name in glob.glob("*/specs/*.antt", root_dir=crates) + glob.glob("*/src/*.rt", root_dir=crates):
             made = antt.File if name.endswith(".antt") else rt.File
             self.files[name] = made(name, read(os.path.join(crates, name)))
+        self.crates = {name.split("/")[0] for name in self.files}
         self.scopes = {name: self.scope(file) for name, file in self.files.items()}
 
     def scope(self, file):
@@ -40,7 +41,7 @@ class Repository:
     def imported(self, path, name):
         """The declaration that an import names, or None where it is one of the kit's."""
         match = PATH.match(path)
-        if not match:
+        if not match or match.group(1) not in self.crates:
             return None
         crate, where, rest = match.groups()
         if where == "proofs":
@@ -81,7 +82,7 @@ class Repository:
         parts = file.uses.get(word, word).split("::")
         if len(parts) > 1:
             crate = path.split("/")[0] if parts[0] == "crate" else parts[0]
-            return self.in_source(crate, parts[-1]) if f"{crate}/src/lib.rt" in self.files else None
+            return self.in_source(crate, parts[-1]) if crate in self.crates else None
         own = [one for one in file.declared if one.name == word and one.kind in ("struct", "enum", "const")]
         return own[0] if own else None
 
