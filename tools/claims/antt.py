@@ -94,6 +94,7 @@ class File:
         self.names.update({one.name: one for one in self.declared})
 
     def block(self, statements, around):
+        """The statements of a file or of a module, with the heads of the modules around them."""
         last = None
         for lines in statements:
             words = lines[0].text.split()
@@ -128,6 +129,6 @@ class File:
             marks = [word for word in words[:3] if word in ("pub", "abbrev", "unfoldable")]
             kind = next((mark for mark in marks if mark != "pub"), "plain")
             return self.add(Declaration(words[len(marks)], kind, "pub" in marks, head=lines, around=around))
-        owner = next((one for one in self.declared if one.name == words[0]), last)
+        owner = next((one for one in reversed(self.declared) if one.name == words[0]), last)
         owner.body += lines
         return last

@@ -29,11 +29,11 @@ class Names:
             if word in (",", ";"):
                 bound = set(kept)
             elif word == "λ":
-                bound |= self.until(".")
+                bound |= self.until(".", bound)
             elif word in OPENING:
                 bound |= self.bracket(bound)
             elif word == "let":
-                bound |= self.bound_by_let()
+                bound |= self.bound_by_let(bound)
             else:
                 self.use(word, bound)
         return bound
@@ -44,33 +44,46 @@ class Names:
         if not (label or word in bound or word.startswith(".") or NO_NAME.match(word)):
             self.used.add(word)
 
-    def until(self, end):
-        """The names up to this word; the types beside them are used."""
+    def until(self, end, bound):
+        """The names up to this word, those of a λ; the types beside them are used."""
         names = set()
         while self.at < len(self.words) and self.words[self.at] != end:
             word = self.words[self.at]
             self.at += 1
-            names |= self.bracket(names, True) if word in OPENING else {word}
+            names |= self.bracket(bound | names, True) if word in OPENING else {word}
         self.at += 1
         return names
 
     def bracket(self, bound, binds=False):
-        """What `(x y : A)` binds; with `binds`, what (x, y) does. The rest of a bracket is used."""
+        """What `(x y : A)` binds, and with `binds` also (x, y); what is in any other bracket is used."""
         start = self.at
         while self.at < len(self.words) and self.words[self.at] not in list("(){},;") + [":", "=", "."]:
             self.at += 1
         names = self.words[start:self.at]
         if self.words[self.at:self.at + 1] == [":"] and names:
-            self.group(bound)
+            self.group(set(bound))
             return set(names)
         self.at = start
-        inside = self.group(bound | set(names) if binds else bound)
-        return inside - bound if binds else set()
+        if not binds:
+            self.group(set(bound))
+            return set()
+        return self.pair()
 
-    def bound_by_let(self):
+    def pair(self):
+        """All names up to the bracket that closes."""
+        names, depth = set(), 1
+        while depth:
+            word = self.words[self.at]
+            self.at += 1
+            depth += (word in OPENING) - (word in CLOSING)
+            names.add(word)
+        return names
+
+    def bound_by_let(self, bound):
+        """The name behind a `let`, or those of the pair."""
         word = self.words[self.at]
         self.at += 1
-        return self.bracket(set(), True) if word in OPENING else {word}
+        return self.bracket(set(bound), True) if word in OPENING else {word}
 
     def pattern(self, words):
         """What the left side of a clause binds: every name in it that is no constructor."""
