@@ -5,6 +5,7 @@
 use calls::Answered;
 use calls::Reply;
 use eventlog::Event;
+use eventlog::Head;
 use eventlog::Record;
 use leb128::Decoded;
 use leb128::Encoded;
@@ -18,11 +19,13 @@ use replay::Replayed;
 use state::Header;
 use tagset::TagSet;
 ghost use mathlib.Core.Path.{_≡_};
+ghost use Prim.Native.Nat.{min};
+ghost use lib.ListN.{length};
 ghost use Rattle.leb128.specs.Answer.{readingOf, writingOf};
-ghost use Rattle.leb128.specs.Number.{decodeAt, encodeAt, writeAt};
+ghost use Rattle.leb128.specs.Number.{formOf, decodeAt, encodeAt, writeAt};
 ghost use Rattle.eventlog.specs.declared.Event.the-variants.{Enable, Disable};
-ghost use Rattle.eventlog.specs.Answer.{fieldsOf, read, unread, recordReadingOf};
-ghost use Rattle.eventlog.specs.Log.{recordAt, bytesOf};
+ghost use Rattle.eventlog.specs.Answer.{fieldsOf, read, unread, recordReadingOf, headReadingOf};
+ghost use Rattle.eventlog.specs.Log.{recordAt, headAt, bytesOf};
 ghost use Rattle.state.specs.State.{storageOf, stateOf};
 ghost use Rattle.outcome.specs.Outcome.{startOf, enableOf, disableOf, addOf};
 ghost use Rattle.calls.specs.Replies.{answerOf};
@@ -243,21 +246,38 @@ pub extern "C" fn tracker_replay(
     replay_answer(answered)
 }
 
-// `leb128::decode` of a number of 32 bits.
+// `leb128::decode`.
 #[no_mangle]
-pub extern "C" fn log_decode(bytes: &[u8], at: usize) -> NumberAnswer
-    ensures { λ r. ⌜ readingIn r ≡ decodeAt 32 (now (bytes .entry)) at ⌝ }
+pub extern "C" fn log_decode(bytes: &[u8], at: usize, width: u32) -> NumberAnswer
+    ensures { λ r. ⌜ readingIn r ≡ decodeAt (min width 64) (now (bytes .entry)) at ⌝ }
 {
-    number_answer(leb128::decode(bytes, at, 32))
+    number_answer(leb128::decode(bytes, at, width))
 }
 
-// `leb128::encode` of a number of 32 bits.
+// `leb128::encode`.
 #[no_mangle]
-pub extern "C" fn log_encode(out: &mut [u8], at: usize, value: u32) -> WriteAnswer
+pub extern "C" fn log_encode(out: &mut [u8], at: usize, value: u64) -> WriteAnswer
     ensures answer { λ r. ⌜ writingIn r ≡ encodeAt (now (out .entry)) at value .answer ⌝ }
     ensures output { λ r. ⌜ now (out .exit) ≡ encodeAt (now (out .entry)) at value .output ⌝ }
 {
-    write_answer(leb128::encode(out, at, value as u64))
+    write_answer(leb128::encode(out, at, value))
+}
+
+// `eventlog::read_head`: the value is n.
+#[no_mangle]
+pub extern "C" fn log_read_head(bytes: &[u8]) -> NumberAnswer
+    ensures { λ r. ⌜ readingIn r ≡ headAt (now (bytes .entry)) ⌝ }
+{
+    head_answer(eventlog::read_head(bytes))
+}
+
+// `eventlog::write_head`.
+#[no_mangle]
+pub extern "C" fn log_write_head(out: &mut [u8], n: u32) -> WriteAnswer
+    ensures answer { λ r. ⌜ writingIn r ≡ writeAt (now (out .entry)) 0 (formOf n) .answer ⌝ }
+    ensures output { λ r. ⌜ now (out .exit) ≡ writeAt (now (out .entry)) 0 (formOf n) .output ⌝ }
+{
+    write_answer(eventlog::write_head(out, n))
 }
 
 // `eventlog::read_record`.
@@ -290,6 +310,28 @@ pub extern "C" fn log_write_disable(out: &mut [u8], at: usize, number: u32) -> W
 {
     let event = Event::Disable { number: number };
     write_answer(eventlog::write_record(out, at, event))
+}
+
+// `eventlog::record_len` of an enable.
+#[no_mangle]
+pub extern "C" fn log_enable_len(flow: Flow) -> usize
+    ensures { λ r. ⌜ r ≡ length (bytesOf (Enable (flow .number) (flow .from) (flow .to))) ⌝ }
+{
+    let event = Event::Enable {
+        number: flow.number,
+        from: flow.from,
+        to: flow.to,
+    };
+    eventlog::record_len(event)
+}
+
+// `eventlog::record_len` of a disable.
+#[no_mangle]
+pub extern "C" fn log_disable_len(number: u32) -> usize
+    ensures { λ r. ⌜ r ≡ length (bytesOf (Disable number)) ⌝ }
+{
+    let event = Event::Disable { number: number };
+    eventlog::record_len(event)
 }
 
 // `report::tally` in a new tracker: the text that the program `tally` prints for these bytes.
@@ -470,6 +512,29 @@ fn number_answer(answered: Decoded) -> NumberAnswer
             next: 0,
         },
         Decoded::Overlong => NumberAnswer {
+            refusal: 2,
+            value: 0,
+            next: 0,
+        },
+    }
+}
+
+// The numbers of what reading the head answers.
+fn head_answer(answered: Head) -> NumberAnswer
+    ensures { λ r. ⌜ readingIn r ≡ headReadingOf answered ⌝ }
+{
+    match answered {
+        Head::Containers(n, next) => NumberAnswer {
+            refusal: 0,
+            value: n as u64,
+            next: next,
+        },
+        Head::Truncated => NumberAnswer {
+            refusal: 1,
+            value: 0,
+            next: 0,
+        },
+        Head::Overlong => NumberAnswer {
             refusal: 2,
             value: 0,
             next: 0,
