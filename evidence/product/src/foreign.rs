@@ -71,10 +71,14 @@ extern "C" {
     pub fn tracker_is_legal(header: Header, tags: *const u64, tags_length: usize, policies: *const u64, policies_length: usize, counts: *const u8, counts_length: usize, flows: *const Flow, flows_length: usize, container: u32) -> LegalAnswer;
     pub fn tracker_rank(header: Header, tags: *const u64, tags_length: usize, policies: *const u64, policies_length: usize, counts: *const u8, counts_length: usize, flows: *const Flow, flows_length: usize, out: *mut u16, out_length: usize) -> u32;
     pub fn tracker_replay(bytes: *const u8, bytes_length: usize, tags: *mut u64, tags_length: usize, policies: *mut u64, policies_length: usize, counts: *mut u8, counts_length: usize, flows: *mut Flow, flows_length: usize) -> ReplayAnswer;
-    pub fn log_decode(bytes: *const u8, bytes_length: usize, at: usize) -> NumberAnswer;
-    pub fn log_encode(out: *mut u8, out_length: usize, at: usize, value: u32) -> WriteAnswer;
+    pub fn log_decode(bytes: *const u8, bytes_length: usize, at: usize, width: u32) -> NumberAnswer;
+    pub fn log_encode(out: *mut u8, out_length: usize, at: usize, value: u64) -> WriteAnswer;
+    pub fn log_read_head(bytes: *const u8, bytes_length: usize) -> NumberAnswer;
+    pub fn log_write_head(out: *mut u8, out_length: usize, n: u32) -> WriteAnswer;
     pub fn log_read_record(bytes: *const u8, bytes_length: usize, at: usize) -> RecordAnswer;
     pub fn log_write_enable(out: *mut u8, out_length: usize, at: usize, flow: Flow) -> WriteAnswer;
     pub fn log_write_disable(out: *mut u8, out_length: usize, at: usize, number: u32) -> WriteAnswer;
+    pub fn log_enable_len(flow: Flow) -> usize;
+    pub fn log_disable_len(number: u32) -> usize;
     pub fn tally_text(bytes: *const u8, bytes_length: usize, out: *mut u8, out_length: usize) -> WriteAnswer;
 }

@@ -4,7 +4,7 @@
 //! Each of the exported functions answers for every content and length and writes only inside the slices it is lent, by its contract in crates/foreign.
 mod foreign;
 
-use foreign::{CallAnswer, TagSet, WriteAnswer};
+use foreign::{CallAnswer, NumberAnswer, TagSet, WriteAnswer};
 use interface::{Answer, Event, Flow, Header, Implementation, Lent, Replayed};
 
 /// The proved library.
@@ -22,6 +22,11 @@ fn value_or<T: PartialEq + std::fmt::Debug>(refusal: u32, value: T, none: T) -> 
     }
     assert_eq!(value, none, "refusal {refusal} with another number");
     Err(refusal)
+}
+
+/// The number that was read and the position after it, or the refusal.
+fn read(told: NumberAnswer) -> Result<(u64, usize), u32> {
+    value_or(told.refusal, (told.value, told.next), (0, 0))
 }
 
 /// The position after what was written, or the refusal.
@@ -81,14 +86,21 @@ impl Implementation for Product {
         Replayed { refusal: told.refusal, byte: told.byte as u64, events: told.events, gain: told.gain, header: told.header }
     }
 
-    fn decode(&self, bytes: &[u8], at: usize) -> Result<(u32, usize), u32> {
-        let told = unsafe { foreign::log_decode(bytes.as_ptr(), bytes.len(), at) };
-        let value = u32::try_from(told.value).expect("a number of 32 bits");
-        value_or(told.refusal, (value, told.next), (0, 0))
+    fn decode(&self, bytes: &[u8], at: usize, width: u32) -> Result<(u64, usize), u32> {
+        read(unsafe { foreign::log_decode(bytes.as_ptr(), bytes.len(), at, width) })
     }
 
-    fn encode(&self, value: u32, out: &mut [u8], at: usize) -> Result<usize, u32> {
+    fn encode(&self, value: u64, out: &mut [u8], at: usize) -> Result<usize, u32> {
         written(unsafe { foreign::log_encode(out.as_mut_ptr(), out.len(), at, value) })
+    }
+
+    fn read_head(&self, bytes: &[u8]) -> Result<(u32, usize), u32> {
+        let (n, next) = read(unsafe { foreign::log_read_head(bytes.as_ptr(), bytes.len()) })?;
+        Ok((u32::try_from(n).expect("n is a number of 32 bits"), next))
+    }
+
+    fn write_head(&self, n: u32, out: &mut [u8]) -> Result<usize, u32> {
+        written(unsafe { foreign::log_write_head(out.as_mut_ptr(), out.len(), n) })
     }
 
     fn read_record(&self, bytes: &[u8], at: usize) -> Result<(Event, usize), u32> {
@@ -109,6 +121,13 @@ impl Implementation for Product {
             Event::Enable(flow) => unsafe { foreign::log_write_enable(out.as_mut_ptr(), out.len(), at, flow) },
             Event::Disable(number) => unsafe { foreign::log_write_disable(out.as_mut_ptr(), out.len(), at, number) },
         })
+    }
+
+    fn record_len(&self, event: Event) -> usize {
+        match event {
+            Event::Enable(flow) => unsafe { foreign::log_enable_len(flow) },
+            Event::Disable(number) => unsafe { foreign::log_disable_len(number) },
+        }
     }
 
     fn tally(&self, bytes: &[u8], out: &mut [u8]) -> Result<usize, u32> {
