@@ -22,7 +22,7 @@ import papers
 import rt
 
 # The files of the claims; the first begins with the index.
-CLAIMS = ["crates/claims/specs/Claims.antt"]
+CLAIMS = [f"crates/claims/specs/{name}.antt" for name in ("Claims", "Tie", "Exports")]
 BEGIN = "-- THE INDEX."
 QUOTATION = re.compile(r"(?:(?<=[\s(])|^)'(.+?)'(?=[:,;.)]|$)")
 BACKQUOTED = re.compile(r"`([^`]+)`")

@@ -3,7 +3,7 @@
 -- below the imports. Assumes nothing.
 --
 -- THE INDEX. A name by itself is a theorem of this file (history and tracker are its abbreviations) or, if it ends in
--- -contract, of Tie.antt. A name in backquotes is a definition, a row of a table,
+-- contract, of Tie.antt or Exports.antt. A name in backquotes is a definition, a row of a table,
 -- a law, a sample or a function with its contract, and stands in the file behind it, below crates/. A sentence that no theorem fixes says so.
 --
 -- DEMAND 1: any input gets the work, or the refusal that comes first in the paper's order; what is refused changes nothing
@@ -281,7 +281,14 @@
 --   of the paper: apply-enable-answers-the-first, refused-apply-enable-changes-nothing, apply-disable-answers-the-first,
 --   refused-apply-disable-changes-nothing, apply-enable-is-enable, apply-disable-is-disable.
 --   `rank_sets` (ranking/src/lib.rt), by which the text is made, judges none either: rank-sets-writes-the-ranking-or-nothing.
---   The exported functions (foreign/src/lib.rt) are the calls and the reader and writer once more, for other languages: their contracts cite the same definitions
+--   The exported functions (foreign/src/lib.rt) are the calls and the reader and writer once more, for other languages; their
+--   contracts are equations with the same definitions: exported-start-contract, exported-enable-contract,
+--   exported-disable-contract, exported-add-policy-contract, exported-tags-of-contract, exported-size-of-contract,
+--   exported-is-legal-contract, exported-rank-contract, exported-replay-contract, exported-decode-contract,
+--   exported-encode-contract, exported-read-head-contract, exported-write-head-contract, exported-read-record-contract,
+--   exported-write-enable-contract, exported-write-disable-contract, exported-enable-len-contract,
+--   exported-disable-len-contract, exported-tally-text-contract. The words of these and of the contracts above: lists, given,
+--   Ensures
 use mathlib.Core.Path.{_≡_, refl, sym, ap, _∙_, subst}
 use mathlib.Core.Bool.{true, false}
 use mathlib.Core.List.{List, [], _∷_, _++_, map}
@@ -794,10 +801,11 @@ pub replay-is-starting-and-calls : (bs : List ℕ) (lent : Storage) → IsBytes 
 replay-is-starting-and-calls = replay-does
 
 -- which events those are is found from n and the bytes alone: of the events that can be read, the first that join the history, up to one that does not
-pub the-events-done-are-those-that-join : (bs : List ℕ) (lent : Storage) (are : IsBytes bs) (b : containersIn bs lent .refusal ≡ 0)
-    → replay-does bs lent are b .done ≡ joining (headAt bs .value) empty (eventsFrom bs (headAt bs .next) .events)
+pub the-events-done-are-those-that-join : (bs : List ℕ) (lent : Storage) → IsBytes bs → containersIn bs lent .refusal ≡ 0
+    → (w : Replays bs (headAt bs .value) lent (replayOf bs lent))
+    × (w .done ≡ joining (headAt bs .value) empty (eventsFrom bs (headAt bs .next) .events))
 unfolding doneOf
-the-events-done-are-those-that-join = replay-done
+the-events-done-are-those-that-join bs lent are b = (replay-does bs lent are b, replay-done bs lent are b)
 
 pub joining-goes-on : (n : ℕ) (h : History) (e : LogEvent) (es : List LogEvent) → joins n h (eventIn e) ≡ true
     → joining n h (e ∷ es) ≡ e ∷ joining n (h ▸ eventIn e) es

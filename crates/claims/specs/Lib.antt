@@ -3,3 +3,4 @@ pub mod Permission
 pub mod Claims
 pub mod Running
 pub mod Tie
+pub mod Exports

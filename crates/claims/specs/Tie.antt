@@ -43,65 +43,65 @@ lists tags policies counts flows = storageOf (tags .now) (policies .now) (counts
 abbrev pub given : Header → RefT (List ℕ) → RefT (List ℕ) → RefT (List ℕ) → RefT (List Flow) → State
 given header tags policies counts flows = stateOf header (tags .now) (policies .now) (counts .now) (flows .now)
 
--- over every model of memory and of the code that runs. In an entry: the arguments in their order, the result, and the
--- arguments at exit, those that are lent to be written with a ′
-module _ {M : Type 1} (𝓤 : URA M) (H : Heap 𝓤) (A : Atoms 𝓤) (mem : Memory → SProp 𝓤) (run : Routine → Fun 𝓤) where
-  -- a contract that requires nothing and ensures what `says` says
-  abbrev pub Ensures : (T : Ended)
-      → ((κs : Lfts (T .signature .lifetimes)) → Args (T .signature) κs → Res (T .signature) κs → AtExit T κs → SProp 𝓤)
-      → Clauses 𝓤 T
-  Ensures T says κs a = record { ghost = Unit; requires = λ g. emp 𝓤; ensures = λ g r e. says κs a r e }
+-- a contract that requires nothing and ensures what `says` says: of the arguments in their order, of the result, and of the
+-- arguments at exit
+abbrev pub Ensures : {M : Type 1} (𝓤 : URA M) (T : Ended)
+    → ((κs : Lfts (T .signature .lifetimes)) → Args (T .signature) κs → Res (T .signature) κs → AtExit T κs → SProp 𝓤)
+    → Clauses 𝓤 T
+Ensures 𝓤 T says κs a = record { ghost = Unit; requires = λ g. emp 𝓤; ensures = λ g r e. says κs a r e }
 
-  pub start-contract : start-it.clauses 𝓤 H A mem run ≡ Ensures start-it.ended
+-- over every model of memory and of the code that runs. An argument at exit is named with a ′
+module _ {M : Type 1} (𝓤 : URA M) (H : Heap 𝓤) (A : Atoms 𝓤) (mem : Memory → SProp 𝓤) (run : Routine → Fun 𝓤) where
+  pub start-contract : start-it.clauses 𝓤 H A mem run ≡ Ensures 𝓤 start-it.ended
       (λ κs (n, (tags, (policies, (counts, (flows, _))))) r (_, (tags′, (policies′, (counts′, (flows′, _))))).
       fact 𝓤 (StartGave n (lists tags policies counts flows) r (lists tags′ policies′ counts′ flows′)))
   start-contract = refl
 
-  pub enable-contract : enable-it.clauses 𝓤 H A mem run ≡ Ensures enable-it.ended
+  pub enable-contract : enable-it.clauses 𝓤 H A mem run ≡ Ensures 𝓤 enable-it.ended
       (λ κs (header, (tags, (policies, (counts, (flows, (flow, _)))))) r (_, (tags′, (_, (_, (flows′, _))))).
       fact 𝓤 (CallGave (given header tags policies counts flows) (ask (enable flow)) r (lists tags′ policies counts flows′)))
   unfolding outcomeOf
   enable-contract = refl
 
-  pub disable-contract : disable-it.clauses 𝓤 H A mem run ≡ Ensures disable-it.ended
+  pub disable-contract : disable-it.clauses 𝓤 H A mem run ≡ Ensures 𝓤 disable-it.ended
       (λ κs (header, (tags, (policies, (counts, (flows, (number, _)))))) r (_, (_, (_, (_, (flows′, _))))).
       fact 𝓤 (CallGave (given header tags policies counts flows) (ask (disable number)) r (lists tags policies counts flows′)))
   unfolding outcomeOf
   disable-contract = refl
 
-  pub add-policy-contract : add-it.clauses 𝓤 H A mem run ≡ Ensures add-it.ended
+  pub add-policy-contract : add-it.clauses 𝓤 H A mem run ≡ Ensures 𝓤 add-it.ended
       (λ κs (header, (tags, (policies, (counts, (flows, (c, (policy, _))))))) r (_, (_, (policies′, (counts′, _)))).
       fact 𝓤 (CallGave (given header tags policies counts flows) (add c policy) r (lists tags policies′ counts′ flows)))
   unfolding outcomeOf
   add-policy-contract = refl
 
-  pub tags-of-contract : tags-it.clauses 𝓤 H A mem run ≡ Ensures tags-it.ended
+  pub tags-of-contract : tags-it.clauses 𝓤 H A mem run ≡ Ensures 𝓤 tags-it.ended
       (λ κs (header, (tags, (policies, (counts, (flows, (c, _)))))) r e.
       fact 𝓤 (TagsGave (given header tags policies counts flows) c r))
   tags-of-contract = refl
 
-  pub size-of-contract : size-it.clauses 𝓤 H A mem run ≡ Ensures size-it.ended
+  pub size-of-contract : size-it.clauses 𝓤 H A mem run ≡ Ensures 𝓤 size-it.ended
       (λ κs (header, (tags, (policies, (counts, (flows, (c, _)))))) r e.
       fact 𝓤 (sizeReply r ≡ sizeAsked (given header tags policies counts flows) c))
   size-of-contract = refl
 
-  pub is-legal-contract : legal-it.clauses 𝓤 H A mem run ≡ Ensures legal-it.ended
+  pub is-legal-contract : legal-it.clauses 𝓤 H A mem run ≡ Ensures 𝓤 legal-it.ended
       (λ κs (header, (tags, (policies, (counts, (flows, (c, _)))))) r e.
       fact 𝓤 (LegalGave (given header tags policies counts flows) c r))
   is-legal-contract = refl
 
-  pub rank-contract : rank-it.clauses 𝓤 H A mem run ≡ Ensures rank-it.ended
+  pub rank-contract : rank-it.clauses 𝓤 H A mem run ≡ Ensures 𝓤 rank-it.ended
       (λ κs (header, (tags, (policies, (counts, (flows, (out, _)))))) r (_, (_, (_, (_, (_, (out′, _)))))).
       sep 𝓤 (fact 𝓤 (rankedReply r ≡ rankOf (given header tags policies counts flows) (out .now) .refusal))
       (fact 𝓤 (out′ .now ≡ rankOf (given header tags policies counts flows) (out .now) .output)))
   rank-contract = refl
 
-  pub replay-contract : replay-it.clauses 𝓤 H A mem run ≡ Ensures replay-it.ended
+  pub replay-contract : replay-it.clauses 𝓤 H A mem run ≡ Ensures 𝓤 replay-it.ended
       (λ κs (bytes, (tags, (policies, (counts, (flows, _))))) r (_, (tags′, (policies′, (counts′, (flows′, _))))).
       fact 𝓤 (ReplayGave (bytes .now) (lists tags policies counts flows) r (lists tags′ policies′ counts′ flows′)))
   replay-contract = refl
 
-  pub tally-contract : tally-it.clauses 𝓤 H A mem run ≡ Ensures tally-it.ended
+  pub tally-contract : tally-it.clauses 𝓤 H A mem run ≡ Ensures 𝓤 tally-it.ended
       (λ κs (bytes, (tags, (policies, (counts, (out, _))))) r (_, (tags′, (policies′, (counts′, (out′, _))))).
       let lent = withNewTable (tags .now) (policies .now) (counts .now) in
       sep 𝓤 (fact 𝓤 (TallyAnswered (bytes .now) lent (out .now) r))
