@@ -355,11 +355,11 @@ replay-as-calls bs lent are a r left e = as-called bs lent are a (ap (λ (x : Re
 
 pub tally-as-calls : (bs lentTags lentPolicies lentCounts : List ℕ)
     → (let lent = withNewTable lentTags lentPolicies lentCounts in
-    IsBytes bs → containersIn bs lent .refusal ≡ 0 → length bs ≤ 16384
-    → (r : Tallied) (tags policies counts : List ℕ) → TallyLeft bs lent r tags policies counts
+    IsBytes bs → containersIn bs lent .refusal ≡ 0
+    → length bs ≤ 16384 → (r : Tallied) (tags policies counts : List ℕ) → TallyLeft bs lent r tags policies counts
     → Called (headAt bs .value) lent (map callOf (doneOf bs)) (stateOf (r .header) tags policies counts (r .flows)))
 tally-as-calls bs lentTags lentPolicies lentCounts are a short r tags policies counts e =
-    let lent = withNewTable lentTags lentPolicies lentCounts in as-called bs lent are a (e ∙ left-of-replay bs lent short)
+    let lent = withNewTable lentTags lentPolicies lentCounts in as-called bs lent are a (e ∙ left-of-replay bs lent (omega (arith, short)))
 
 -- and there are such calls, for every replay and every `tally` whose n and storage are accepted
 pub replay-begins : (bs : List ℕ) (lent : Storage) → IsBytes bs → containersIn bs lent .refusal ≡ 0
@@ -371,4 +371,4 @@ pub tally-begins : (bs tags policies counts : List ℕ)
     IsBytes bs → containersIn bs lent .refusal ≡ 0 → length bs ≤ 16384
     → (s : State) × Called (headAt bs .value) lent (map callOf (doneOf bs)) s)
 tally-begins bs tags policies counts are a short =
-    let w = tally-left bs tags policies counts [] in (_, tally-as-calls bs tags policies counts are a short (w .0) _ _ _ (w .2))
+    let w = tally-left bs tags policies counts [] in (_, tally-as-calls bs tags policies counts are a (omega (arith, short)) (w .0) _ _ _ (w .2))
