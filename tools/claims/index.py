@@ -10,6 +10,7 @@
 3. Every quotation stands in the papers, within one paragraph. It is between ' and ' and ends before one of : , ; . ) or
    at the end of its entry, so that an apostrophe within it is no end; [..] stands for a part that is left out.
 4. Of every sentence of document 01 at least half is quoted.
+5. Every public function of tracker, report and foreign has its entry in Tie.antt or Exports.antt.
 The papers are in ../shared/papers beside the repository, or where the environment variable PAPERS says.
 """
 import os
@@ -23,6 +24,8 @@ import rt
 
 # The files of the claims; the first begins with the index.
 CLAIMS = [f"crates/claims/specs/{name}.antt" for name in ("Claims", "Tie", "Exports")]
+# The crates whose public functions are tied, each with the file that has the entries.
+TIES = [("tracker", CLAIMS[1]), ("report", CLAIMS[1]), ("foreign", CLAIMS[2])]
 BEGIN = "-- THE INDEX."
 QUOTATION = re.compile(r"(?:(?<=[\s(])|^)'(.+?)'(?=[:,;.)]|$)")
 BACKQUOTED = re.compile(r"`([^`]+)`")
@@ -167,10 +170,28 @@ def faults_of_quotations(index, text):
     return found + [(CLAIMS[0], index.line, f"no quotation of: {sentence}") for sentence in missing]
 
 
+def is_tied(crate, name, text):
+    """Whether this text says of the function's whole contract what it is."""
+    brought = re.search(rf"use Rattle\.{crate}\.proofs\.{name} as (\S+)", text)
+    return brought and f": {brought[1]}.clauses 𝓤 H A mem run ≡ Ensures 𝓤 {brought[1]}.ended " in text
+
+
+def faults_of_ties(sources):
+    """Public functions whose contract has no entry."""
+    found = []
+    for crate, path in TIES:
+        text = " ".join(sources.text(path).split())
+        for one in sources.file(f"crates/{crate}/src/lib.rt").declared:
+            if one.kind == "fn" and one.public and not is_tied(crate, one.name, text):
+                found.append((one.file, one.head[0].number, f"no entry for {one.name} in {path}"))
+    return found
+
+
 def faults(sources, text):
     """All that is wrong with the index, and the line that says how much it holds."""
     index = Index(sources.text(CLAIMS[0]))
     found = faults_of_names(index, sources) + faults_of_paths(index, sources) + faults_of_quotations(index, text)
+    found += faults_of_ties(sources)
     names = len({name for _, name, _ in index.cited})
     return sorted(found), f"index: {len(claimed(sources))} theorems, {names} names, {len(index.quotations)} quotations"
 
@@ -220,14 +241,28 @@ def wrong_quotations(text, head, body):
     ]
 
 
+def wrong_ties(sources):
+    """Copies of Tie.antt with an entry that lacks, or is of another function or another contract, and of a new call."""
+    path, source = CLAIMS[1], "crates/tracker/src/lib.rt"
+    copy = lambda old, new: (path, sources.text(path).replace(old, new))
+    told = f"no entry for enable in {path}"
+    return [
+        ("an entry that lacks", *copy("enable-it.clauses", "disable-it.clauses"), told),
+        ("a contract that requires something", *copy("Ensures 𝓤 enable-it", "Asks 𝓤 enable-it"), told),
+        ("an entry of another function", *copy("proofs.enable as", "proofs.disable as"), told),
+        ("a call more", source, sources.text(source) + "\npub fn one_more(n: u32) -> u32\n{\n    n\n}\n", "no entry for one_more"),
+    ]
+
+
 def self_test(sources, text):
     """Whether each wrong copy is told of; the right one is not."""
     missed = [f"told of the right index: {fault}" for fault in faults(sources, text)[0]]
     whole = sources.text(CLAIMS[0])
     parts = whole.split("\nuse ", 1)
-    copies = wrong_names(whole, *parts) + wrong_quotations(whole, *parts)
-    for name, copy, told in copies:
-        found = faults(sources.with_text(CLAIMS[0], copy), text)[0]
+    copies = [(name, CLAIMS[0], *rest) for name, *rest in wrong_names(whole, *parts) + wrong_quotations(whole, *parts)]
+    copies += wrong_ties(sources)
+    for name, path, copy, told in copies:
+        found = faults(sources.with_text(path, copy), text)[0]
         if not any(told in fault for _, _, fault in found):
             missed.append(f"not told: {name}")
     return missed, f"index: {len(copies)} wrong indexes found"
