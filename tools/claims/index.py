@@ -245,12 +245,12 @@ def wrong_ties(sources):
     """Copies of Tie.antt with an entry that lacks, or is of another function or another contract, and of a new call."""
     path, source = CLAIMS[1], "crates/tracker/src/lib.rt"
     copy = lambda old, new: (path, sources.text(path).replace(old, new))
-    told = f"no entry for enable in {path}"
+    told, more = f"no entry for enable in {path}", "\npub fn one_more(n: u32) -> u32\n{\n    n\n}\n"
     return [
         ("an entry that lacks", *copy("enable-it.clauses", "disable-it.clauses"), told),
         ("a contract that requires something", *copy("Ensures 𝓤 enable-it", "Asks 𝓤 enable-it"), told),
         ("an entry of another function", *copy("proofs.enable as", "proofs.disable as"), told),
-        ("a call more", source, sources.text(source) + "\npub fn one_more(n: u32) -> u32\n{\n    n\n}\n", "no entry for one_more"),
+        ("a call more", source, sources.text(source) + more, "no entry for one_more"),
     ]
 
 
