@@ -2,7 +2,7 @@
 -- what table 1a says, and in which another order of the same executions leaves less. Assumes nothing.
 use mathlib.Core.Path.{_≡_, refl}
 use mathlib.Core.Bool.{Bool, true, false}
-use mathlib.Core.List.{List, [], _∷_, List·Memᴰ·head, List·Memᴰ·tail}
+use mathlib.Core.List.{List, [], _∷_, List·Memᴰ·head, List·Memᴰ·tail, List·Memᴰ·not-nil}
 use Rattle.model.specs.Model.{_∈_, flow, Event, enable, disable, History, empty, _▸_, isEnabled, keep, without, enabled, edgesOf, Execution, begin, event, exec, initial, carry, configuration, greatest, joins, joined, acceptedFrom, accepted}
 use Rattle.model.specs.Reach.{tabulate, matrix, cell, isEdge, reachVia, reachable}
 
@@ -131,3 +131,9 @@ late =
 pub late-leaves : matrix 3 (configuration 3 late) ≡ (I ∷ O ∷ O ∷ []) ∷ (I ∷ I ∷ O ∷ []) ∷ (I ∷ I ∷ I ∷ []) ∷ []
 unfolding late tabulate matrix configuration initial carry
 late-leaves = refl
+
+-- and a flow that is disabled is executed no more: where no other is enabled, an execution ends with the disable
+pub closed-flow-is-over : (x : Execution (empty ▸ enable (flow 1 0 1) ▸ disable 1)) → (y : Execution (empty ▸ enable (flow 1 0 1))) × (x ≡ event y (disable 1))
+unfolding keep without enabled
+closed-flow-is-over (event y e) = (y, refl)
+closed-flow-is-over (exec x f i a b j) = absurd (List·Memᴰ·not-nil i)
