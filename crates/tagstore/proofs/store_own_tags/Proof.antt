@@ -51,7 +51,7 @@ loop-again c =
     let ws = head .loop .words in
     let start = head .before .before .args .words .now in
     let called = c .before .before in
-    let h : 4 * k + 4 ≤ length ws = omega (arith, ltb-true k (length ws / 4) (called .before .before .before .if1 .taken)) in
+    let h : 4 * k + 4 ≤ length ws = omega (arith, ltb-true) in
     let g : 4 * k + 4 ≤ length start = omega (arith, h) in
     let put = ap₂ (λ (l : List ℕ) (s : TagSet). putSet l k s) (head .loop .inv .3) (called .before .single .ensures) in (
       omega arith,
