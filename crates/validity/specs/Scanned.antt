@@ -45,13 +45,14 @@ four f =
     both-and (both-and (both-and (and-both (f 0) true (r .1) .0) (r .0)) (q .0)) (p .0))
 
 -- the places for policy sets, each compared with what it may hold where `m` are in use
-pub places-valid : (known : TagSet) (ps : List ℕ) (c : ℕ) {count : ℕ} (m : ℕ) {p q r s : TagSet} → count ≡ m → leb m 4 ≡ true
-    → p ≡ cond (ltb 0 m) known emptySet → q ≡ cond (ltb 1 m) known emptySet → r ≡ cond (ltb 2 m) known emptySet → s ≡ cond (ltb 3 m) known emptySet
-    → subsetOf (setAt ps (4 * c)) p && subsetOf (setAt ps (4 * c + 1)) q && subsetOf (setAt ps (4 * c + 2)) r && subsetOf (setAt ps (4 * c + 3)) s
-    ≡ policiesValid known ps c count
+pub places-valid : (known : TagSet) (ps : List ℕ) (c : ℕ) {count : ℕ} (m : ℕ) {p q r s : TagSet} {b : Bool}
+    → b ≡ subsetOf (setAt ps (4 * c)) p && subsetOf (setAt ps (4 * c + 1)) q && subsetOf (setAt ps (4 * c + 2)) r && subsetOf (setAt ps (4 * c + 3)) s
+    → count ≡ m → leb m 4 ≡ true → p ≡ cond (ltb 0 m) known emptySet → q ≡ cond (ltb 1 m) known emptySet → r ≡ cond (ltb 2 m) known emptySet → s ≡ cond (ltb 3 m) known emptySet
+    → b ≡ policiesValid known ps c count
 unfolding policiesValid
-places-valid known ps c m e most ep eq er es =
-    (λ i. subsetOf (setAt ps (4 * c)) (ep i) && subsetOf (setAt ps (4 * c + 1)) (eq i) && subsetOf (setAt ps (4 * c + 2)) (er i) && subsetOf (setAt ps (4 * c + 3)) (es i))
+places-valid known ps c m told e most ep eq er es =
+    told
+    ∙ (λ i. subsetOf (setAt ps (4 * c)) (ep i) && subsetOf (setAt ps (4 * c + 1)) (eq i) && subsetOf (setAt ps (4 * c + 2)) (er i) && subsetOf (setAt ps (4 * c + 3)) (es i))
     ∙ ap (λ (z : ℕ).
     subsetOf (setAt ps z) (cond (ltb 0 m) known emptySet)
     && subsetOf (setAt ps (4 * c + 1)) (cond (ltb 1 m) known emptySet)
