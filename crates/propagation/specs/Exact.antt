@@ -93,14 +93,6 @@ module _ (n : ℕ) (found : List ℕ) (e : ℕ × ℕ) (ws : List ℕ) where
 
 -- ALL EDGES
 
--- with all of them the pairs are more by the new tags
-pub new-total : (n : ℕ) (found : List ℕ) (es : List (ℕ × ℕ)) (ws : List ℕ) → 4 * n ≤ length ws
-    → totalOf n ws + newInAll n found es ws ≡ totalOf n (carriedAll n found es ws)
-unfolding newInAll carriedAll
-new-total n found [] ws h = omega arith
-new-total n found (e ∷ es) ws h =
-    omega (arith, edge-total n found e ws h, new-total n found es (carried n found e ws) (omega (arith, edge-length n found e ws)))
-
 module _ (n : ℕ) (found : List ℕ) (c t : ℕ) where
   -- one of these edges gives tag t to container c
   abbrev Gets : List (ℕ × ℕ) → Type 0
@@ -193,6 +185,14 @@ module _ (n : ℕ) (es : List (ℕ × ℕ)) (ws : List ℕ) (h : 4 * n ≤ lengt
   pass-subset c = subset-of-has (setAt ws c) (setAt (pass n es ws) c) (passed-keeps 1 c)
 
 -- HOW MANY PAIRS
+
+-- with all edges the pairs are more by the new tags
+pub new-total : (n : ℕ) (found : List ℕ) (es : List (ℕ × ℕ)) (ws : List ℕ) → 4 * n ≤ length ws
+    → totalOf n ws + newInAll n found es ws ≡ totalOf n (carriedAll n found es ws)
+unfolding newInAll carriedAll
+new-total n found [] ws h = omega arith
+new-total n found (e ∷ es) ws h =
+    omega (arith, edge-total n found e ws h, new-total n found es (carried n found e ws) (omega (arith, edge-length n found e ws)))
 
 -- a set is larger than a part of it that lacks one of its tags
 size-more : (a b : TagSet) (t : ℕ) → subsetOf a b ≡ true → has b t ≡ true → has a t ≡ false → sizeOf a < sizeOf b
