@@ -53,7 +53,8 @@ loop-again c =
     let called = c .before .before in
     let h : 4 * k + 4 ≤ length ws = omega (arith, ltb-true) in
     let g : 4 * k + 4 ≤ length start = omega (arith, h) in
-    let put = ap₂ (λ (l : List ℕ) (s : TagSet). putSet l k s) (head .loop .inv .3) (called .before .single .ensures) in (
+    let own : called .before .single .result ≡ singleOf k = called .before .single .ensures in
+    let put = ap₂ (λ (l : List ℕ) (s : TagSet). putSet l k s) (head .loop .inv .3) own in (
       omega arith,
       omega (arith, g),
       called .store-set .kept .0 ∙ head .loop .inv .2,
