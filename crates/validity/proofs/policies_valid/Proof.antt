@@ -33,19 +33,27 @@ sets-within-requires-5 : tie.Need-sets-within-requires-5
 sets-within-requires-5 c κs = search needs
 
 returns : tie.Need-returns
-returns c = let e = c .before .before .empty .ensures in places-valid _ _ _ _ (c .sets-within .ensures) (c .before .match .keys1) refl (e) (e) (e) (e)
+returns c =
+    let none = c .before .before .empty in
+    places-valid _ _ _ _ {p = none .result} {q = none .result} {r = none .result} {s = none .result} (c .sets-within .ensures) (c .before .match .keys1) refl (none .ensures) (none .ensures) (none .ensures) (none .ensures)
 
 returns-2 : tie.Need-returns-2
-returns-2 c = let e = c .before .before .empty .ensures in places-valid _ _ _ _ (c .sets-within2 .ensures) (c .before .match .keys2) refl refl (e) (e) (e)
+returns-2 c =
+    let none = c .before .before .empty in
+    places-valid _ _ _ _ {q = none .result} {r = none .result} {s = none .result} (c .sets-within2 .ensures) (c .before .match .keys2) refl refl (none .ensures) (none .ensures) (none .ensures)
 
 returns-3 : tie.Need-returns-3
-returns-3 c = let e = c .before .before .empty .ensures in places-valid _ _ _ _ (c .sets-within3 .ensures) (c .before .match .keys3) refl refl refl (e) (e)
+returns-3 c =
+    let none = c .before .before .empty in
+    places-valid _ _ _ _ {r = none .result} {s = none .result} (c .sets-within3 .ensures) (c .before .match .keys3) refl refl refl (none .ensures) (none .ensures)
 
 returns-4 : tie.Need-returns-4
-returns-4 c = let e = c .before .before .empty .ensures in places-valid _ _ _ _ (c .sets-within4 .ensures) (c .before .match .keys4) refl refl refl refl (e)
+returns-4 c =
+    let none = c .before .before .empty in
+    places-valid _ _ _ _ {s = none .result} (c .sets-within4 .ensures) (c .before .match .keys4) refl refl refl refl (none .ensures)
 
 returns-5 : tie.Need-returns-5
-returns-5 c = let e = c .before .before .empty .ensures in places-valid _ _ _ _ (c .sets-within5 .ensures) (c .before .match .keys5) refl refl refl refl refl
+returns-5 c = places-valid _ _ _ _ (c .sets-within5 .ensures) (c .before .match .keys5) refl refl refl refl refl
 
 returns-6 : tie.Need-returns-6
 unfolding policiesValid
