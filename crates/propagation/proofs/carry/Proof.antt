@@ -46,7 +46,9 @@ source-is c = c .load-set2 .ensures ∙ load-whole _ _ (omega arith)
 
 -- their union
 new-is : (c : tie.After-union) → c .union .result ≡ New (c .before .before .before .before .before .before .before .before .before .before)
-new-is c = c .union .ensures ∙ ap₂ unionOf (old-is (c .before .before .before .before)) (source-is (c .before .before .before))
+new-is c =
+    let made : c .union .result ≡ unionOf (c .before .before .before .before .load-set .result) (c .before .before .before .load-set2 .result) = c .union .ensures in
+    made ∙ ap₂ unionOf (old-is (c .before .before .before .before)) (source-is (c .before .before .before))
 
 -- the union is larger by the new tags
 sizes : (c : tie.After-size2)
