@@ -43,7 +43,9 @@ own c = rw (← loaded (c .before)) (c .contains .ensures)
 known : (c : tie.After-is-subset Inv-loop μ-loop)
     → (let l = c .before .before .before .before .before in let s = l .before .before .before .before .before .args in
     c .is-subset .result ≡ subsetOf (setAt (s .tags .now) (l .loop .c)) (belowOf (s .n)))
-known c = c .is-subset .ensures ∙ ap₂ subsetOf (loaded (c .before .before .before)) (c .before .before .before .before .before .before .below .ensures)
+known c =
+    let told : c .is-subset .result ≡ subsetOf (c .before .before .before .set-at .result) (c .before .before .before .before .before .before .below .result) = c .is-subset .ensures in
+    told ∙ ap₂ subsetOf (loaded (c .before .before .before)) (c .before .before .before .before .before .before .below .ensures)
 
 -- whether its policy sets are valid
 policies : (c : tie.After-policies-valid Inv-loop μ-loop)
