@@ -1,9 +1,9 @@
 //! What starting and events do in the places of a tracker that is known to be valid.
 
-use crate::propagation::{self, Room};
 use crate::refusal::Refusal;
 use crate::storage::{Storage, FLOWS};
 use crate::tag_set;
+use crate::way::Way;
 use interface::{Event, Flow, Header};
 
 /// The header of a new tracker: "At the start each holder has its own tag alone."
@@ -18,15 +18,26 @@ pub fn start(storage: &mut Storage<'_>) -> Header {
 }
 
 /// The gain of an event; on a refusal nothing is changed.
-pub fn apply(event: Event, header: &mut Header, storage: &mut Storage<'_>, room: &mut Room) -> Result<u32, Refusal> {
+#[inline]
+pub fn apply<W: Way>(
+    event: Event,
+    header: &mut Header,
+    storage: &mut Storage<'_>,
+    room: &mut W::Room,
+) -> Result<u32, Refusal> {
     match event {
-        Event::Enable(flow) => enable(flow, header, storage, room),
+        Event::Enable(flow) => enable::<W>(flow, header, storage, room),
         Event::Disable(number) => disable(number, header, storage),
     }
 }
 
 /// The gain of enabling a flow: "4 for from, 4 for to, 5, 6, 7".
-pub fn enable(flow: Flow, header: &mut Header, storage: &mut Storage<'_>, room: &mut Room) -> Result<u32, Refusal> {
+pub fn enable<W: Way>(
+    flow: Flow,
+    header: &mut Header,
+    storage: &mut Storage<'_>,
+    room: &mut W::Room,
+) -> Result<u32, Refusal> {
     let count = header.count as usize;
     if flow.from >= header.containers || flow.to >= header.containers {
         return Err(Refusal::NoSuchContainer);
@@ -43,7 +54,7 @@ pub fn enable(flow: Flow, header: &mut Header, storage: &mut Storage<'_>, room: 
     storage.flows[count] = flow;
     header.count += 1;
     header.greatest = flow.number;
-    Ok(propagation::propagate(storage.tags, &storage.flows[..=count], room))
+    Ok(W::propagate(storage.tags, &storage.flows[..=count], room))
 }
 
 /// The gain of disabling a flow, 0: "A closing moves the later records down by one." and "It takes no tag away."

@@ -44,17 +44,24 @@ pub struct View<'a> {
 impl<'a> Loan<'a> {
     /// The whole of the lent lists.
     pub fn of(lent: &'a mut Lent) -> Self {
-        Loan { tags: &mut lent.tags, policies: &mut lent.policies, counts: &mut lent.counts, flows: &mut lent.flows }
+        Loan {
+            tags: &mut lent.tags[..],
+            policies: &mut lent.policies[..],
+            counts: &mut lent.counts[..],
+            flows: &mut lent.flows[..],
+        }
     }
 
-    /// The places of a tracker with n containers: "at least 4n words for tag sets, 16n words for permitted sets (four a holder) and n bytes for their counts".
+    /// The places of a tracker with n containers: "at least 4n words for tag sets, 16n words for permitted sets (four a
+    /// holder) and n bytes for their counts".
     pub fn cut(self, n: u32) -> Result<Storage<'a>, Refusal> {
         let n = usable(n)?;
         let tags = self.tags.get_mut(..WORDS * n).ok_or(Refusal::BadSize)?;
         let policies = self.policies.get_mut(..WORDS * POLICIES * n).ok_or(Refusal::BadSize)?;
         let counts = self.counts.get_mut(..n).ok_or(Refusal::BadSize)?;
         let flows = self.flows.first_chunk_mut().ok_or(Refusal::BadSize)?;
-        Ok(Storage { tags: tags.as_chunks_mut().0, policies: policies.as_chunks_mut().0.as_chunks_mut().0, counts, flows })
+        let policies = policies.as_chunks_mut().0.as_chunks_mut().0;
+        Ok(Storage { tags: tags.as_chunks_mut().0, policies, counts, flows })
     }
 }
 

@@ -32,10 +32,22 @@ pub fn is_empty(set: &TagSet) -> bool {
     set[0] | set[1] | set[2] | set[3] == 0
 }
 
+/// The tags that either set has.
+#[inline]
+pub fn union(a: &TagSet, b: &TagSet) -> TagSet {
+    array::from_fn(|word| a[word] | b[word])
+}
+
 /// The tags of both sets.
 #[inline]
 pub fn common(a: &TagSet, b: &TagSet) -> TagSet {
     array::from_fn(|word| a[word] & b[word])
+}
+
+/// Whether no tag is in both sets.
+#[inline]
+pub fn is_disjoint(a: &TagSet, b: &TagSet) -> bool {
+    is_empty(&common(a, b))
 }
 
 /// The tags of the first set that the second lacks.
@@ -54,15 +66,4 @@ pub fn is_subset(part: &TagSet, whole: &TagSet) -> bool {
 #[inline]
 pub fn size(set: &TagSet) -> u32 {
     set.iter().map(|word| word.count_ones()).sum()
-}
-
-/// How many tags `to` gains when it takes in those of `from`.
-#[inline]
-pub fn take_in(to: &mut TagSet, from: &TagSet) -> u32 {
-    let new = missing(from, to);
-    if is_empty(&new) {
-        return 0;
-    }
-    to.iter_mut().zip(&new).for_each(|(word, new)| *word |= new);
-    size(&new)
 }

@@ -1,11 +1,11 @@
 //! The public calls that change a tracker: the lengths and the validity first, then what the call does.
 
 use crate::event;
-use crate::propagation::Room;
 use crate::refusal::Refusal;
 use crate::storage::{Loan, POLICIES};
 use crate::tag_set::{self, TagSet};
 use crate::validity;
+use crate::way::Way;
 use interface::{Answer, Flow, Header};
 
 /// A new tracker. "Starting: 9."
@@ -17,27 +17,29 @@ pub fn start(n: u32, loan: Loan<'_>) -> Answer {
 }
 
 /// The tracker after a flow is enabled. "Opening: 9, 12, 4 for from, 4 for to, 5, 6, 7."
-pub fn enable(mut header: Header, loan: Loan<'_>, flow: Flow) -> Answer {
-    let done = validity::open(&header, loan).and_then(|mut storage| event::enable(flow, &mut header, &mut storage, &mut Room::new()));
+pub fn enable<W: Way>(mut header: Header, loan: Loan<'_>, flow: Flow) -> Answer {
+    let done = validity::open::<W>(&header, loan)
+        .and_then(|mut storage| event::enable::<W>(flow, &mut header, &mut storage, &mut W::room()));
     answer(done, header)
 }
 
 /// The tracker after a flow is disabled. "Closing: 9, 12, 8."
-pub fn disable(mut header: Header, loan: Loan<'_>, number: u32) -> Answer {
-    let done = validity::open(&header, loan).and_then(|mut storage| event::disable(number, &mut header, &mut storage));
+pub fn disable<W: Way>(mut header: Header, loan: Loan<'_>, number: u32) -> Answer {
+    let done = validity::open::<W>(&header, loan)
+        .and_then(|mut storage| event::disable(number, &mut header, &mut storage));
     answer(done, header)
 }
 
 /// The tracker after a policy set is added.
-pub fn add_policy(header: Header, loan: Loan<'_>, container: u32, policy: &TagSet) -> Answer {
-    answer(add(&header, loan, container, policy), header)
+pub fn add_policy<W: Way>(header: Header, loan: Loan<'_>, container: u32, policy: &TagSet) -> Answer {
+    answer(add::<W>(&header, loan, container, policy), header)
 }
 
 /// The gain of adding a policy set, 0. "Adding a set: 9, 12, 4 for the holder, 4 for the set, 11."
-fn add(header: &Header, loan: Loan<'_>, container: u32, policy: &TagSet) -> Result<u32, Refusal> {
-    let storage = validity::open(header, loan)?;
+fn add<W: Way>(header: &Header, loan: Loan<'_>, container: u32, policy: &TagSet) -> Result<u32, Refusal> {
+    let storage = validity::open::<W>(header, loan)?;
     let outside = tag_set::n_or_more(storage.tags.len());
-    if container >= header.containers || !tag_set::is_empty(&tag_set::common(policy, &outside)) {
+    if container >= header.containers || !tag_set::is_disjoint(policy, &outside) {
         return Err(Refusal::NoSuchContainer);
     }
     let count = &mut storage.counts[container as usize];

@@ -1,14 +1,15 @@
 //! Whether a tracker is valid (document 01: sound), judged in full.
 
 use crate::refusal::Refusal;
-use crate::storage::{Loan, Policies, Storage, View, FLOWS};
+use crate::storage::{Loan, Policies, Storage, View};
 use crate::tag_set::{self, TagSet};
+use crate::way::Way;
 use interface::{Flow, Header, Lent};
 
 /// The places of a valid tracker, to be changed; 9 and then 12 otherwise.
-pub fn open<'a>(header: &Header, loan: Loan<'a>) -> Result<Storage<'a>, Refusal> {
+pub fn open<'a, W: Way>(header: &Header, loan: Loan<'a>) -> Result<Storage<'a>, Refusal> {
     let storage = loan.cut(header.containers)?;
-    if is_valid(header, storage.view()) {
+    if W::is_valid(header, storage.view()) {
         Ok(storage)
     } else {
         Err(Refusal::Invalid)
@@ -16,51 +17,32 @@ pub fn open<'a>(header: &Header, loan: Loan<'a>) -> Result<Storage<'a>, Refusal>
 }
 
 /// The places of a valid tracker, to be read; 9 and then 12 otherwise.
-pub fn look<'a>(header: &Header, lent: &'a Lent) -> Result<View<'a>, Refusal> {
+pub fn look<'a, W: Way>(header: &Header, lent: &'a Lent) -> Result<View<'a>, Refusal> {
     let view = View::cut(header.containers, lent)?;
-    if is_valid(header, view) {
+    if W::is_valid(header, view) {
         Ok(view)
     } else {
         Err(Refusal::Invalid)
     }
 }
 
-/// Whether the tracker is valid.
-fn is_valid(header: &Header, view: View<'_>) -> bool {
-    let count = header.count as usize;
-    if count > FLOWS {
+/// Whether the tracker is valid, n and the lengths being known to be right.
+pub fn is_valid(header: &Header, view: View<'_>) -> bool {
+    let Some((enabled, unused)) = view.flows.split_at_checked(header.count as usize) else {
         return false;
-    }
-    let (enabled, unused) = view.flows.split_at(count);
+    };
     let outside = tag_set::n_or_more(view.tags.len());
-    all_zero(unused)
-        && flows_are_valid(enabled, header.greatest, view.tags)
+    numbers_are_valid(enabled, header.greatest)
+        && enabled.iter().all(|flow| flow_is_valid(flow, view.tags))
+        && unused.iter().all(|flow| *flow == Flow::default())
         && tags_are_valid(view.tags, &outside)
-        && policies_are_valid(view.policies, view.counts, &outside)
+        && view.policies.iter().zip(view.counts).all(|(sets, &count)| policies_are_valid(sets, count, &outside))
 }
 
-/// Whether no record holds anything: "unused places are zero".
-fn all_zero(records: &[Flow]) -> bool {
-    let (blocks, rest) = records.as_chunks::<16>();
-    any_bit(rest) == 0 && blocks.iter().all(|block| any_bit(block) == 0)
-}
-
-/// The bits that any field of these records has.
-#[inline]
-fn any_bit(records: &[Flow]) -> u32 {
-    records.iter().fold(0, |bits, flow| bits | flow.number | flow.from | flow.to)
-}
-
-/// Whether "channel numbers rise strictly from at least 1 and don't pass the greatest" and each flow by itself is valid.
-fn flows_are_valid(enabled: &[Flow], greatest: u32, tags: &[TagSet]) -> bool {
-    let mut last = 0;
-    for flow in enabled {
-        if flow.number <= last || !flow_is_valid(flow, tags) {
-            return false;
-        }
-        last = flow.number;
-    }
-    last <= greatest
+/// Whether "channel numbers rise strictly from at least 1 and don't pass the greatest".
+fn numbers_are_valid(enabled: &[Flow], greatest: u32) -> bool {
+    enabled.is_sorted_by(|flow, next| flow.number < next.number)
+        && enabled.iter().all(|flow| (1..=greatest).contains(&flow.number))
 }
 
 /// Whether "all ends are below n and differ" and "the from-set is part of the to-set".
@@ -73,28 +55,14 @@ fn flow_is_valid(flow: &Flow, tags: &[TagSet]) -> bool {
 
 /// Whether "no set names a tag of n or more; each holder has its own tag".
 fn tags_are_valid(tags: &[TagSet], outside: &TagSet) -> bool {
-    tags.iter().enumerate().all(|(container, set)| tag_set::has(set, container) && tag_set::is_empty(&tag_set::common(set, outside)))
+    let is_valid = |container, set| tag_set::has(set, container) && tag_set::is_disjoint(set, outside);
+    tags.iter().enumerate().all(|(container, set)| is_valid(container, set))
 }
 
-/// Whether the policy sets of each container are valid.
-fn policies_are_valid(policies: &[Policies], counts: &[u8], outside: &TagSet) -> bool {
-    policies.iter().zip(counts).all(|(sets, count)| match count {
-        0 => sets_are_valid::<0>(sets, outside),
-        1 => sets_are_valid::<1>(sets, outside),
-        2 => sets_are_valid::<2>(sets, outside),
-        3 => sets_are_valid::<3>(sets, outside),
-        4 => sets_are_valid::<4>(sets, outside),
-        _ => false,
-    })
-}
-
-/// Whether the first `COUNT` policy sets name no tag of n or more and "unused places are zero".
-#[inline]
-fn sets_are_valid<const COUNT: usize>(sets: &Policies, outside: &TagSet) -> bool {
-    let mut wrong: TagSet = [0; 4];
-    for (place, set) in sets.iter().enumerate() {
-        let found = if place < COUNT { tag_set::common(set, outside) } else { *set };
-        wrong.iter_mut().zip(found).for_each(|(word, found)| *word |= found);
-    }
-    tag_set::is_empty(&wrong)
+/// Whether a container has at most four policy sets, none "names a tag of n or more" and "unused places are zero".
+fn policies_are_valid(sets: &Policies, count: u8, outside: &TagSet) -> bool {
+    let Some((in_use, unused)) = sets.split_at_checked(usize::from(count)) else {
+        return false;
+    };
+    in_use.iter().all(|set| tag_set::is_disjoint(set, outside)) && unused.iter().all(tag_set::is_empty)
 }

@@ -1,15 +1,14 @@
 //! The tag sets against the definitions of documents 000 and 01, computed as set comprehensions.
 
 use super::{flow, members, Random, Tracker};
-use crate::propagation::{self, Room};
-use crate::tag_set;
 use interface::{Event, Flow};
 use std::collections::BTreeSet;
 
 /// Pairs of containers, or of a tag and a container.
 type Pairs = BTreeSet<(u32, u32)>;
 
-/// The reflexive and transitive closure of the flows: each pair (a, b) where b can be reached from a by zero or more of them.
+/// The reflexive and transitive closure of the flows: each pair (a, b) where b can be reached from a by zero or more of
+/// them.
 fn closure(n: u32, enabled: &[Flow]) -> Pairs {
     let mut closed: Pairs = (0..n).map(|container| (container, container)).collect();
     loop {
@@ -73,7 +72,8 @@ impl Model {
     }
 }
 
-/// The pairs of tag and container of a tracker, as its storage has them and as a question about the last container answers.
+/// The pairs of tag and container of a tracker, as its storage has them and as a question about the last container
+/// answers.
 fn pairs(tracker: &Tracker) -> Pairs {
     let n = tracker.header.containers;
     let table: Vec<Vec<u32>> = tracker.lent.tags[..4 * n as usize].as_chunks().0.iter().map(members).collect();
@@ -85,7 +85,7 @@ fn pairs(tracker: &Tracker) -> Pairs {
 fn random_event(model: &Model, random: &mut Random) -> Event {
     let ends = model.n + u32::from(random.below(20) == 0);
     match random.below(5) {
-        0 | 1 if !model.enabled.is_empty() => Event::Disable(model.enabled[random.below(model.enabled.len() as u32) as usize].number),
+        0 | 1 if !model.enabled.is_empty() => Event::Disable(random.one_of(&model.enabled).number),
         0 => Event::Disable(random.below(model.greatest + 2)),
         _ => Event::Enable(flow(model.greatest + random.below(4), random.below(ends), random.below(ends))),
     }
@@ -162,74 +162,11 @@ fn no_run_has_a_tag_that_the_tracker_lacks() {
                 model.join(event);
             }
             for _ in 0..random.below(6).min(6 * model.enabled.len() as u32) {
-                let passage = model.enabled[random.below(model.enabled.len() as u32) as usize];
-                let carried: Vec<_> = run.iter().filter(|pair| pair.1 == passage.from).map(|pair| (pair.0, passage.to)).collect();
-                run.extend(carried);
+                let passage = random.one_of(&model.enabled);
+                let carried = run.iter().filter(|pair| pair.1 == passage.from).map(|pair| (pair.0, passage.to));
+                run.extend(carried.collect::<Vec<_>>());
             }
             assert!(run.is_subset(&pairs(&tracker)));
         }
-    }
-}
-
-/// The gain of each of four passes over these flows, with the sets as each pass found them.
-fn four_passes(n: usize, enabled: &[Flow]) -> Vec<u32> {
-    let mut tags: Vec<_> = (0..n).map(tag_set::only).collect();
-    let one = |tags: &mut Vec<_>| {
-        let found = tags.clone();
-        propagation::pass(tags, enabled, &found, &mut [0; 512]).0
-    };
-    (0..4).map(|_| one(&mut tags)).collect()
-}
-
-/// The gain and the sets of the whole propagation from the start.
-fn propagated(n: usize, enabled: &[Flow]) -> (u32, Vec<Vec<u32>>) {
-    let mut tags: Vec<_> = (0..n).map(tag_set::only).collect();
-    let gain = propagation::propagate(&mut tags, enabled, &mut Room::new());
-    (gain, tags.iter().map(members).collect())
-}
-
-#[test]
-fn a_pass_reads_the_sets_as_it_found_them() {
-    let chain = [flow(1, 0, 1), flow(2, 1, 2), flow(3, 2, 3)];
-    assert_eq!(four_passes(4, &chain), [3, 2, 1, 0]);
-    assert_eq!(propagated(4, &chain), (6, vec![vec![0], vec![0, 1], vec![0, 1, 2], vec![0, 1, 2, 3]]));
-}
-
-#[test]
-fn a_pass_counts_a_tag_that_two_flows_bring_once() {
-    let twice = [flow(1, 0, 2), flow(2, 0, 2), flow(3, 1, 2)];
-    assert_eq!(four_passes(3, &twice), [2, 0, 0, 0]);
-    assert_eq!(propagated(3, &twice), (2, vec![vec![0], vec![1], vec![0, 1, 2]]));
-}
-
-/// The gain of all passes, with a fresh copy of all sets before each pass.
-fn by_whole_copies(tags: &mut [[u64; 4]], enabled: &[Flow]) -> u32 {
-    let mut gain = 0;
-    loop {
-        let found = tags.to_vec();
-        let before = gain;
-        for flow in enabled {
-            let (to, from) = (flow.to as usize, found[flow.from as usize]);
-            gain += (0..4).map(|word| (from[word] & !tags[to][word]).count_ones()).sum::<u32>();
-            (0..4).for_each(|word| tags[to][word] |= from[word]);
-        }
-        if gain == before {
-            return gain;
-        }
-    }
-}
-
-#[test]
-fn the_copy_that_is_brought_up_to_date_is_a_whole_copy() {
-    let mut random = Random::new(5);
-    for round in 0..400 {
-        let n = 2 + random.below(if round % 4 == 0 { 255 } else { 12 });
-        let count = random.below(if round % 4 == 0 { 513 } else { 16 });
-        let enabled: Vec<Flow> = (1..=count).map(|number| flow(number, random.below(n), random.below(n))).collect();
-        let mut tags: Vec<_> = (0..n as usize).map(tag_set::only).collect();
-        let mut expected = tags.clone();
-        let gain = propagation::propagate(&mut tags, &enabled, &mut Room::new());
-        assert_eq!(gain, by_whole_copies(&mut expected, &enabled));
-        assert_eq!(tags, expected);
     }
 }

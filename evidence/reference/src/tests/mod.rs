@@ -3,14 +3,15 @@
 mod definition;
 mod limits;
 mod log;
+mod number;
 mod program;
 mod ranking;
 mod refusals;
-mod replays;
+pub mod replays;
 mod samples;
 mod validity;
 
-use crate::Reference;
+use crate::Tested;
 use interface::{Answer, Event, Flow, Header, Implementation, Lent};
 
 /// Random numbers that are the same at each run.
@@ -34,6 +35,11 @@ impl Random {
     pub fn below(&mut self, limit: u32) -> u32 {
         ((self.word() >> 32) % u64::from(limit)) as u32
     }
+
+    /// A random one of these.
+    pub fn one_of<T: Copy>(&mut self, all: &[T]) -> T {
+        all[self.below(all.len() as u32) as usize]
+    }
 }
 
 /// A flow with these ends.
@@ -41,24 +47,45 @@ pub fn flow(number: u32, from: u32, to: u32) -> Flow {
     Flow { number, from, to }
 }
 
+/// Lent storage of these lists.
+pub fn lend(tags: Vec<u64>, policies: Vec<u64>, counts: Vec<u8>, flows: Vec<Flow>) -> Lent {
+    Lent { tags, policies, counts, flows }
+}
+
 /// Storage for n containers with so many places more in each list, all with random content.
 pub fn storage(n: usize, more: usize, random: &mut Random) -> Lent {
-    Lent {
-        tags: (0..4 * n + more).map(|_| random.word()).collect(),
-        policies: (0..16 * n + more).map(|_| random.word()).collect(),
-        counts: (0..n + more).map(|_| random.word() as u8).collect(),
-        flows: (0..512 + more).map(|_| flow(random.word() as u32, random.word() as u32, random.word() as u32)).collect(),
-    }
+    lend(
+        (0..4 * n + more).map(|_| random.word()).collect(),
+        (0..16 * n + more).map(|_| random.word()).collect(),
+        (0..n + more).map(|_| random.word() as u8).collect(),
+        (0..512 + more).map(|_| flow(random.word() as u32, random.word() as u32, random.word() as u32)).collect(),
+    )
+}
+
+/// The storage up to these places of its lists, and so many zeros after them.
+pub fn up_to(places: [usize; 4], zeros: usize, lent: &Lent) -> Lent {
+    lend(
+        [&lent.tags[..places[0]], &vec![0; zeros]].concat(),
+        [&lent.policies[..places[1]], &vec![0; zeros]].concat(),
+        [&lent.counts[..places[2]], &vec![0; zeros]].concat(),
+        [&lent.flows[..places[3]], &vec![flow(0, 0, 0); zeros]].concat(),
+    )
+}
+
+/// The lengths in use for n containers.
+pub fn lengths(n: usize) -> [usize; 4] {
+    [4 * n, 16 * n, n, 512]
 }
 
 /// The storage from the lengths in use on.
 pub fn beyond(n: usize, lent: &Lent) -> Lent {
-    Lent {
-        tags: lent.tags[4 * n..].to_vec(),
-        policies: lent.policies[16 * n..].to_vec(),
-        counts: lent.counts[n..].to_vec(),
-        flows: lent.flows[512..].to_vec(),
-    }
+    let [tags, policies, counts, flows] = lengths(n);
+    lend(
+        lent.tags[tags..].to_vec(),
+        lent.policies[policies..].to_vec(),
+        lent.counts[counts..].to_vec(),
+        lent.flows[flows..].to_vec(),
+    )
 }
 
 /// The set with these tags.
@@ -88,7 +115,7 @@ impl Tracker {
     pub fn new(n: u32) -> Self {
         let mut lent = storage(n as usize, 7, &mut Random::new(u64::from(n)));
         let beyond = beyond(n as usize, &lent);
-        let answer = Reference.start(n, &mut lent);
+        let answer = Tested.start(n, &mut lent);
         assert_eq!(answer, Answer { refusal: 0, gain: 0, header: Header { containers: n, count: 0, greatest: 0 } });
         Tracker { header: answer.header, lent, beyond }
     }
@@ -109,14 +136,14 @@ impl Tracker {
     /// Enables a flow.
     pub fn enable(&mut self, number: u32, from: u32, to: u32) -> Answer {
         let before = self.clone();
-        let answer = Reference.enable(self.header, &mut self.lent, flow(number, from, to));
+        let answer = Tested.enable(self.header, &mut self.lent, flow(number, from, to));
         self.take(&before, answer)
     }
 
     /// Disables a flow.
     pub fn disable(&mut self, number: u32) -> Answer {
         let before = self.clone();
-        let answer = Reference.disable(self.header, &mut self.lent, number);
+        let answer = Tested.disable(self.header, &mut self.lent, number);
         self.take(&before, answer)
     }
 
@@ -131,7 +158,7 @@ impl Tracker {
     /// Adds a policy set.
     pub fn add(&mut self, container: u32, tags: &[u32]) -> Answer {
         let before = self.clone();
-        let answer = Reference.add_policy(self.header, &mut self.lent, container, set(tags));
+        let answer = Tested.add_policy(self.header, &mut self.lent, container, set(tags));
         self.take(&before, answer)
     }
 
@@ -144,8 +171,8 @@ impl Tracker {
 
     /// The tags of a container, rising.
     pub fn tags(&self, container: u32) -> Vec<u32> {
-        let set = Reference.tags_of(self.header, &self.lent, container).unwrap();
-        assert_eq!(Reference.size_of(self.header, &self.lent, container), Ok(members(&set).len() as u32));
+        let set = Tested.tags_of(self.header, &self.lent, container).unwrap();
+        assert_eq!(Tested.size_of(self.header, &self.lent, container), Ok(members(&set).len() as u32));
         members(&set)
     }
 
@@ -156,7 +183,7 @@ impl Tracker {
 
     /// Whether a container is legal.
     pub fn legal(&self, container: u32) -> bool {
-        Reference.is_legal(self.header, &self.lent, container).unwrap()
+        Tested.is_legal(self.header, &self.lent, container).unwrap()
     }
 }
 
@@ -170,13 +197,13 @@ pub fn all_calls(header: Header, lent: &Lent, disabled: u32) -> [u32; 7] {
     };
     let mut out = [999; 256];
     let answers = [
-        changing(&|lent| Reference.enable(header, lent, flow(4_000_000_000, 0, 1))),
-        changing(&|lent| Reference.disable(header, lent, disabled)),
-        changing(&|lent| Reference.add_policy(header, lent, 0, [1, 0, 0, 0])),
-        Reference.tags_of(header, lent, 0).err().unwrap_or(0),
-        Reference.size_of(header, lent, 0).err().unwrap_or(0),
-        Reference.is_legal(header, lent, 0).err().unwrap_or(0),
-        Reference.rank(header, lent, &mut out).err().unwrap_or(0),
+        changing(&|lent| Tested.enable(header, lent, flow(4_000_000_000, 0, 1))),
+        changing(&|lent| Tested.disable(header, lent, disabled)),
+        changing(&|lent| Tested.add_policy(header, lent, 0, [1, 0, 0, 0])),
+        Tested.tags_of(header, lent, 0).err().unwrap_or(0),
+        Tested.size_of(header, lent, 0).err().unwrap_or(0),
+        Tested.is_legal(header, lent, 0).err().unwrap_or(0),
+        Tested.rank(header, lent, &mut out).err().unwrap_or(0),
     ];
     assert!(answers[6] == 0 || out == [999; 256]);
     answers

@@ -3,13 +3,13 @@
 use super::replays::{log, random_log};
 use super::samples::EXAMPLE;
 use super::{flow, members, storage, Random};
-use crate::Reference;
+use crate::Tested;
 use interface::{Event, Implementation};
 
 /// The text for this input, which must leave the places after it as they were.
 fn text(bytes: &[u8]) -> String {
     let mut out = vec![b'#'; 300_000];
-    let length = Reference.tally(bytes, &mut out).unwrap();
+    let length = Tested.tally(bytes, &mut out).unwrap();
     assert!(out[length..].iter().all(|&byte| byte == b'#'));
     out.truncate(length);
     String::from_utf8(out).unwrap()
@@ -18,14 +18,14 @@ fn text(bytes: &[u8]) -> String {
 /// The text put together from the answers of the other calls.
 fn expected(bytes: &[u8]) -> String {
     let mut lent = storage(256, 0, &mut Random::new(41));
-    let replayed = Reference.replay(bytes, &mut lent);
+    let replayed = Tested.replay(bytes, &mut lent);
     let mut order = vec![0; replayed.header.containers as usize];
     let mut text = String::new();
     if replayed.header.containers > 0 {
-        Reference.rank(replayed.header, &lent, &mut order).unwrap();
+        Tested.rank(replayed.header, &lent, &mut order).unwrap();
     }
     for container in order {
-        let tags = members(&Reference.tags_of(replayed.header, &lent, u32::from(container)).unwrap());
+        let tags = members(&Tested.tags_of(replayed.header, &lent, u32::from(container)).unwrap());
         let words: Vec<String> = tags.iter().map(u32::to_string).collect();
         text += &format!("{container} {} {}\n", tags.len(), words.join(" "));
     }
@@ -79,7 +79,8 @@ fn the_longest_text() {
 
 /// A log of exactly 16,384 bytes: pairs of enable and disable, and an enable at the end.
 fn longest_input() -> Vec<u8> {
-    let mut events: Vec<Event> = (1..=2079).flat_map(|number| [Event::Enable(flow(number, 0, 1)), Event::Disable(number)]).collect();
+    let pair = |number| [Event::Enable(flow(number, 0, 1)), Event::Disable(number)];
+    let mut events: Vec<Event> = (1..=2079).flat_map(pair).collect();
     events.push(Event::Enable(flow(2080, 0, 1)));
     log(2, &events)
 }
@@ -105,9 +106,9 @@ fn output_just_long_enough_and_one_short() {
         let length = text(&bytes).len();
         let mut out = vec![b'#'; length];
         for short in [0, 1, length / 2, length - 1] {
-            assert_eq!(Reference.tally(&bytes, &mut out[..short]), Err(10));
+            assert_eq!(Tested.tally(&bytes, &mut out[..short]), Err(10));
             assert!(out.iter().all(|&byte| byte == b'#'));
         }
-        assert_eq!(Reference.tally(&bytes, &mut out), Ok(length));
+        assert_eq!(Tested.tally(&bytes, &mut out), Ok(length));
     }
 }

@@ -1,21 +1,17 @@
 //! Every refusal of the calls on a tracker, and which is answered where several hold.
 
 use super::limits::shortened;
-use super::{all_calls, set, Tracker};
-use crate::Reference;
+use super::{all_calls, flow, lend, lengths, set, up_to, Tracker};
+use crate::Tested;
 use interface::{Answer, Header, Implementation, Lent};
 
-/// A tracker of three containers in storage that is just long enough, with four policy sets of container 1 and so many flows enabled.
+/// A tracker of three containers in storage that is just long enough, with four policy sets of container 1 and so many
+/// flows enabled.
 fn tracker(flows: u32) -> (Header, Lent) {
     let mut tracker = Tracker::new(3);
     (0..4).for_each(|_| assert_eq!(tracker.add(1, &[1]).refusal, 0));
     (1..=flows).for_each(|number| assert_eq!(tracker.enable(number, 0, 1 + number % 2).refusal, 0));
-    let mut lent = tracker.lent;
-    lent.tags.truncate(12);
-    lent.policies.truncate(48);
-    lent.counts.truncate(3);
-    lent.flows.truncate(512);
-    (tracker.header, lent)
+    (tracker.header, up_to(lengths(3), 0, &tracker.lent))
 }
 
 /// The first number of those that hold, or 0.
@@ -53,16 +49,19 @@ fn check(header: Header, lent: &Lent, expected: u32, call: impl Fn(&mut Lent) ->
 
 #[test]
 fn order_of_enable() {
-    let ends = [(0, 1), (1, 0), (3, 1), (0, 3), (3, 3), (4, 3), (u32::MAX, 0), (0, u32::MAX), (u32::MAX, u32::MAX), (2, 2)];
+    const MAX: u32 = u32::MAX;
+    let ends = [(0, 1), (1, 0), (3, 1), (0, 3), (3, 3), (4, 3), (MAX, 0), (0, MAX), (MAX, MAX), (2, 2)];
     for flows in [5, 512] {
         let (header, good) = tracker(flows);
         for (short, invalid) in spoils() {
             let lent = spoilt(&good, short, invalid);
             for (from, to) in ends {
-                for number in [0, 1, flows, flows + 1, u32::MAX] {
-                    let held =
-                        [(short.is_some(), 9), (invalid, 12), (from >= 3, 4), (to >= 3, 4), (from == to, 5), (number <= flows, 6), (flows == 512, 7)];
-                    check(header, &lent, first(&held), |lent| Reference.enable(header, lent, super::flow(number, from, to)));
+                for number in [0, 1, flows, flows + 1, MAX] {
+                    let ends = [(from >= 3, 4), (to >= 3, 4), (from == to, 5)];
+                    let rest = [(number <= flows, 6), (flows == 512, 7)];
+                    let held = [&[(short.is_some(), 9), (invalid, 12)], &ends[..], &rest].concat();
+                    let flow = flow(number, from, to);
+                    check(header, &lent, first(&held), |lent| Tested.enable(header, lent, flow));
                 }
             }
         }
@@ -76,7 +75,7 @@ fn order_of_disable() {
         let lent = spoilt(&good, short, invalid);
         for number in [0, 1, 5, 6, u32::MAX] {
             let held = [(short.is_some(), 9), (invalid, 12), (!(1..=5).contains(&number), 8)];
-            check(header, &lent, first(&held), |lent| Reference.disable(header, lent, number));
+            check(header, &lent, first(&held), |lent| Tested.disable(header, lent, number));
         }
     }
 }
@@ -89,8 +88,9 @@ fn order_of_adding_a_policy_set() {
         for container in [0, 1, 2, 3, u32::MAX] {
             for policy in [vec![], vec![2], vec![0, 1, 2], vec![3], vec![0, 64], vec![255]] {
                 let outside = policy.iter().any(|&tag| tag >= 3);
-                let held = [(short.is_some(), 9), (invalid, 12), (container >= 3, 4), (outside, 4), (container == 1, 11)];
-                check(header, &lent, first(&held), |lent| Reference.add_policy(header, lent, container, set(&policy)));
+                let storage = [(short.is_some(), 9), (invalid, 12)];
+                let held = [&storage[..], &[(container >= 3, 4), (outside, 4), (container == 1, 11)]].concat();
+                check(header, &lent, first(&held), |lent| Tested.add_policy(header, lent, container, set(&policy)));
             }
         }
     }
@@ -103,9 +103,9 @@ fn order_of_the_questions() {
         let lent = spoilt(&good, short, invalid);
         for container in [0, 2, 3, 255, u32::MAX] {
             let expected = first(&[(short.is_some(), 9), (invalid, 12), (container >= 3, 4)]);
-            assert_eq!(Reference.tags_of(header, &lent, container).err().unwrap_or(0), expected);
-            assert_eq!(Reference.size_of(header, &lent, container).err().unwrap_or(0), expected);
-            assert_eq!(Reference.is_legal(header, &lent, container).err().unwrap_or(0), expected);
+            assert_eq!(Tested.tags_of(header, &lent, container).err().unwrap_or(0), expected);
+            assert_eq!(Tested.size_of(header, &lent, container).err().unwrap_or(0), expected);
+            assert_eq!(Tested.is_legal(header, &lent, container).err().unwrap_or(0), expected);
         }
     }
 }
@@ -118,7 +118,7 @@ fn order_of_ranking() {
         for places in [0, 2, 3, 4] {
             let mut out = vec![999; places];
             let expected = first(&[(short.is_some(), 9), (invalid, 12), (places < 3, 10)]);
-            assert_eq!(Reference.rank(header, &lent, &mut out).err().unwrap_or(0), expected);
+            assert_eq!(Tested.rank(header, &lent, &mut out).err().unwrap_or(0), expected);
             assert_eq!(out.iter().all(|&place| place == 999), expected != 0);
         }
     }
@@ -127,11 +127,9 @@ fn order_of_ranking() {
 #[test]
 fn a_header_with_a_bad_number_of_containers() {
     for containers in [0, 257, 1 << 30, u32::MAX] {
-        let (header, mut lent) = tracker(5);
-        lent.tags.resize(5000, 0);
-        lent.policies.resize(20_000, 0);
-        lent.counts.resize(1000, 0);
-        assert_eq!(all_calls(Header { containers, ..header }, &lent, 1), [9; 7]);
+        let (header, lent) = tracker(5);
+        let longer = up_to(lengths(3), 20_000, &lent);
+        assert_eq!(all_calls(Header { containers, ..header }, &longer, 1), [9; 7]);
     }
 }
 
@@ -150,6 +148,7 @@ fn a_bad_size_comes_before_a_bad_count() {
 #[test]
 fn empty_storage() {
     let header = Header { containers: 1, count: 0, greatest: 0 };
-    assert_eq!(all_calls(header, &Lent::default(), 1), [9; 7]);
-    assert_eq!(Reference.start(1, &mut Lent::default()), Answer { refusal: 9, ..Answer::default() });
+    let mut nothing = lend(vec![], vec![], vec![], vec![]);
+    assert_eq!(all_calls(header, &nothing, 1), [9; 7]);
+    assert_eq!(Tested.start(1, &mut nothing), Answer { refusal: 9, ..Answer::default() });
 }

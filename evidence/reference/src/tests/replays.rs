@@ -3,22 +3,22 @@
 use super::limits::shortened;
 use super::samples::EXAMPLE;
 use super::{beyond, flow, storage, Random, Tracker};
-use crate::Reference;
+use crate::Tested;
 use interface::{Event, Header, Implementation, Lent, Replayed};
 
 /// Replays a log into storage with random content, for up to 256 containers.
 fn replayed(bytes: &[u8]) -> (Replayed, Lent) {
     let mut lent = storage(256, 3, &mut Random::new(31));
-    let replayed = Reference.replay(bytes, &mut lent);
+    let replayed = Tested.replay(bytes, &mut lent);
     (replayed, lent)
 }
 
 /// A log with these events.
 pub fn log(n: u32, events: &[Event]) -> Vec<u8> {
     let mut bytes = vec![0; 5 + 16 * events.len()];
-    let mut at = Reference.encode(n, &mut bytes, 0).unwrap();
+    let mut at = Tested.write_head(n, &mut bytes).unwrap();
     for &event in events {
-        at = Reference.write_record(event, &mut bytes, at).unwrap();
+        at = Tested.write_record(event, &mut bytes, at).unwrap();
     }
     bytes.truncate(at);
     bytes
@@ -57,7 +57,7 @@ fn example_1() {
     let (replayed, lent) = replayed(&EXAMPLE);
     let header = Header { containers: 5, count: 0, greatest: 4 };
     assert_eq!(replayed, Replayed { refusal: 0, byte: 0, events: 8, gain: 10, header });
-    assert_eq!(Reference.tags_of(header, &lent, 4), Ok([31, 0, 0, 0]));
+    assert_eq!(Tested.tags_of(header, &lent, 4), Ok([31, 0, 0, 0]));
 }
 
 #[test]
@@ -85,11 +85,11 @@ fn refusals_of_n_leave_all_as_it_was() {
 fn storage_that_is_short_leaves_all_as_it_was() {
     for short in shortened(&storage(5, 0, &mut Random::new(32))) {
         let mut lent = short.clone();
-        assert_eq!(Reference.replay(&EXAMPLE, &mut lent), Replayed { refusal: 9, ..Replayed::default() });
+        assert_eq!(Tested.replay(&EXAMPLE, &mut lent), Replayed { refusal: 9, ..Replayed::default() });
         assert_eq!(lent, short);
-        assert_eq!(Reference.replay(&[133, 0], &mut lent).refusal, 2);
+        assert_eq!(Tested.replay(&[133, 0], &mut lent).refusal, 2);
     }
-    assert_eq!(Reference.replay(&EXAMPLE, &mut storage(5, 0, &mut Random::new(32))).refusal, 0);
+    assert_eq!(Tested.replay(&EXAMPLE, &mut storage(5, 0, &mut Random::new(32))).refusal, 0);
 }
 
 #[test]
@@ -98,7 +98,7 @@ fn a_log_of_n_alone() {
         let (replayed, lent) = replayed(&bytes);
         let header = Header { containers: n, count: 0, greatest: 0 };
         assert_eq!(replayed, Replayed { header, ..Replayed::default() });
-        assert_eq!(Reference.size_of(header, &lent, n - 1), Ok(1));
+        assert_eq!(Tested.size_of(header, &lent, n - 1), Ok(1));
     }
 }
 
@@ -149,11 +149,11 @@ fn a_513th_flow() {
 
 /// The replay by single calls.
 fn by_single_calls(bytes: &[u8]) -> Option<(Replayed, Tracker)> {
-    let (n, mut at) = Reference.decode(bytes, 0).ok().filter(|(n, _)| (1..=256).contains(n))?;
+    let (n, mut at) = Tested.read_head(bytes).ok().filter(|(n, _)| (1..=256).contains(n))?;
     let mut tracker = Tracker::new(n);
     let mut done = Replayed { header: tracker.header, ..Replayed::default() };
     while at < bytes.len() {
-        let read = Reference.read_record(bytes, at);
+        let read = Tested.read_record(bytes, at);
         let refusal = match read {
             Ok((event, _)) => {
                 let answer = tracker.event(event);

@@ -1,8 +1,8 @@
 //! The samples of document 01, with their numbers.
 
-use super::{members, Tracker};
-use crate::Reference;
-use interface::{Answer, Event, Implementation, Lent};
+use super::{flow, lend, members, Tracker};
+use crate::Tested;
+use interface::{Answer, Event, Implementation};
 
 /// The input of Example 1.
 pub const EXAMPLE: [u8; 25] = [5, 0, 1, 2, 3, 0, 2, 0, 1, 1, 2, 0, 3, 1, 2, 1, 1, 1, 3, 0, 4, 3, 4, 1, 4];
@@ -19,7 +19,7 @@ fn three_containers_and_no_event() {
 #[test]
 fn example_1_text() {
     let mut out = [b'x'; 100];
-    assert_eq!(Reference.tally(&EXAMPLE, &mut out), Ok(EXAMPLE_TEXT.len()));
+    assert_eq!(Tested.tally(&EXAMPLE, &mut out), Ok(EXAMPLE_TEXT.len()));
     assert_eq!(&out[..EXAMPLE_TEXT.len()], EXAMPLE_TEXT.as_bytes());
     assert!(out[EXAMPLE_TEXT.len()..].iter().all(|&byte| byte == b'x'));
 }
@@ -30,7 +30,7 @@ fn example_1_gains() {
     let mut at = 1;
     let mut gains = Vec::new();
     while at < EXAMPLE.len() {
-        let (event, next) = Reference.read_record(&EXAMPLE, at).unwrap();
+        let (event, next) = Tested.read_record(&EXAMPLE, at).unwrap();
         let answer = tracker.event(event);
         assert_eq!(answer.refusal, 0);
         gains.push(answer.gain);
@@ -75,21 +75,21 @@ fn two_flows_with_the_same_ends() {
 
 #[test]
 fn numbers_are_written_and_read() {
-    let cases: [(u32, &[u8]); 3] = [(127, &[127]), (128, &[128, 1]), (4_294_967_295, &[255, 255, 255, 255, 15])];
+    let cases: [(u64, &[u8]); 3] = [(127, &[127]), (128, &[128, 1]), (4_294_967_295, &[255, 255, 255, 255, 15])];
     for (value, bytes) in cases {
         let mut out = [77; 8];
-        assert_eq!(Reference.encode(value, &mut out, 1), Ok(1 + bytes.len()));
+        assert_eq!(Tested.encode(value, &mut out, 1), Ok(1 + bytes.len()));
         assert_eq!(&out[1..=bytes.len()], bytes);
         assert!(out[0] == 77 && out[1 + bytes.len()..].iter().all(|&byte| byte == 77));
-        assert_eq!(Reference.decode(bytes, 0), Ok((value, bytes.len())));
+        assert_eq!(Tested.decode(bytes, 0, 32), Ok((value, bytes.len())));
     }
 }
 
 #[test]
 fn numbers_that_are_refused() {
-    assert_eq!(Reference.decode(&[128, 0], 0), Err(2));
-    assert_eq!(Reference.decode(&[255, 255, 255, 255, 16], 0), Err(2));
-    assert_eq!(Reference.decode(&[128], 0), Err(1));
+    assert_eq!(Tested.decode(&[128, 0], 0, 32), Err(2));
+    assert_eq!(Tested.decode(&[255, 255, 255, 255, 16], 0, 32), Err(2));
+    assert_eq!(Tested.decode(&[128], 0, 32), Err(1));
 }
 
 #[test]
@@ -107,9 +107,9 @@ fn policy_sets_are_not_united() {
 #[test]
 fn sizes_of_a_tracker() {
     assert_eq!(Tracker::new(256).tags(255), [255]);
-    let mut lent = Lent { tags: vec![9; 2000], policies: vec![9; 5000], counts: vec![9; 300], flows: vec![super::flow(9, 9, 9); 600] };
+    let mut lent = lend(vec![9; 2000], vec![9; 5000], vec![9; 300], vec![flow(9, 9, 9); 600]);
     let before = lent.clone();
-    assert_eq!(Reference.start(257, &mut lent), Answer { refusal: 9, ..Answer::default() });
+    assert_eq!(Tested.start(257, &mut lent), Answer { refusal: 9, ..Answer::default() });
     assert_eq!(lent, before);
 }
 
@@ -128,12 +128,12 @@ fn a_full_table() {
 #[test]
 fn example_1_records_are_written_back() {
     let mut out = [0; EXAMPLE.len()];
-    let mut at = Reference.encode(5, &mut out, 0).unwrap();
+    let mut at = Tested.write_head(5, &mut out).unwrap();
     while at < EXAMPLE.len() {
-        let (event, _) = Reference.read_record(&EXAMPLE, at).unwrap();
-        at = Reference.write_record(event, &mut out, at).unwrap();
+        let (event, _) = Tested.read_record(&EXAMPLE, at).unwrap();
+        at = Tested.write_record(event, &mut out, at).unwrap();
     }
     assert_eq!(out, EXAMPLE);
-    assert_eq!(Reference.read_record(&EXAMPLE, 9), Ok((Event::Disable(2), 11)));
+    assert_eq!(Tested.read_record(&EXAMPLE, 9), Ok((Event::Disable(2), 11)));
     assert_eq!(members(&[1, 2, 0, 1 << 63]), [0, 65, 255]);
 }

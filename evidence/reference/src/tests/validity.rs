@@ -1,7 +1,7 @@
 //! Each clause of validity, broken alone in a tracker that is otherwise valid.
 
-use super::{all_calls, flow, Random, Tracker};
-use crate::Reference;
+use super::{all_calls, flow, lengths, Random, Tracker};
+use crate::Tested;
 use interface::{Flow, Header, Implementation};
 
 /// A valid tracker with n containers, flows 3, 7 and 9 enabled, two policy sets of container 1 and four of container 2.
@@ -126,7 +126,8 @@ fn the_from_set_is_part_of_the_to_set() {
 
 #[test]
 fn unused_records_are_zero() {
-    let parts: [fn(&mut Flow); 3] = [|record| record.number = 10, |record| record.from = 1, |record| record.to = 1 << 31];
+    let parts: [fn(&mut Flow); 3] =
+        [|record| record.number = 10, |record| record.from = 1, |record| record.to = 1 << 31];
     for place in [3, 4, 100, 511] {
         for part in parts {
             check(&tracker(5), |tracker| part(&mut tracker.lent.flows[place]));
@@ -165,10 +166,11 @@ fn what_is_valid_though_no_list_of_calls_makes_it() {
 fn what_lies_beyond_is_not_judged() {
     let mut random = Random::new(8);
     let mut tracker = tracker(5);
-    tracker.lent.tags.extend((0..50).map(|_| random.word()));
-    tracker.lent.policies.extend((0..50).map(|_| random.word()));
-    tracker.lent.counts.extend([255; 9]);
-    tracker.lent.flows.extend([flow(1, 9, 9); 9]);
+    let [tags, policies, counts, flows] = lengths(5);
+    tracker.lent.tags[tags..].fill_with(|| random.word());
+    tracker.lent.policies[policies..].fill_with(|| random.word());
+    tracker.lent.counts[counts..].fill(255);
+    tracker.lent.flows[flows..].fill(flow(1, 9, 9));
     assert_eq!(all_calls(tracker.header, &tracker.lent, 9), [0; 7]);
 }
 
@@ -182,7 +184,7 @@ fn single_bits_of_tag_sets_that_are_flipped() {
             let (container, tag) = (place / 4, 64 * (place % 4) + bit);
             let removed = good.lent.tags[place] >> bit & 1 == 1;
             let breaks = removed || tag >= 200 || container < 3;
-            let answer = Reference.tags_of(changed.header, &changed.lent, 0);
+            let answer = Tested.tags_of(changed.header, &changed.lent, 0);
             assert_eq!(answer.err(), breaks.then_some(12), "{place} {bit}");
         }
     }

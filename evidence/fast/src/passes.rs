@@ -1,8 +1,11 @@
-//! The propagation (document 01: the spread): full passes over the enabled flows until one adds nothing.
+//! The propagation by full passes over the enabled flows until one adds nothing.
 
-use crate::storage::{CONTAINERS, FLOWS};
-use crate::tag_set::{self, TagSet};
+#[cfg(test)]
+mod tests;
+
 use interface::Flow;
+use reference::storage::{CONTAINERS, FLOWS};
+use reference::tag_set::{self, TagSet};
 
 /// Room for passes: the sets as a pass found them, and the containers whose sets it changed.
 pub struct Room {
@@ -35,12 +38,13 @@ pub fn propagate(tags: &mut [TagSet], enabled: &[Flow], room: &mut Room) -> u32 
     }
 }
 
-/// The gain of one pass and how many changes it noted: "Within one pass each channel reads the sets as the pass found them."
-pub fn pass(tags: &mut [TagSet], enabled: &[Flow], found: &[TagSet], changed: &mut [u32; FLOWS]) -> (u32, usize) {
+/// The gain of one pass and how many changes it noted: "Within one pass each channel reads the sets as the pass found
+/// them."
+fn pass(tags: &mut [TagSet], enabled: &[Flow], found: &[TagSet], changed: &mut [u32; FLOWS]) -> (u32, usize) {
     let mut gain = 0;
     let mut changes = 0;
     for flow in enabled {
-        let added = tag_set::take_in(&mut tags[flow.to as usize], &found[flow.from as usize]);
+        let added = take_in(&mut tags[flow.to as usize], &found[flow.from as usize]);
         if added > 0 {
             gain += added;
             changed[changes] = flow.to;
@@ -48,4 +52,15 @@ pub fn pass(tags: &mut [TagSet], enabled: &[Flow], found: &[TagSet], changed: &m
         }
     }
     (gain, changes)
+}
+
+/// How many tags `to` gains when it takes in those of `from`.
+#[inline]
+fn take_in(to: &mut TagSet, from: &TagSet) -> u32 {
+    let new = tag_set::missing(from, to);
+    if tag_set::is_empty(&new) {
+        return 0;
+    }
+    to.iter_mut().zip(&new).for_each(|(word, new)| *word |= new);
+    tag_set::size(&new)
 }
