@@ -144,15 +144,15 @@ fn the_longest_propagation() {
 fn texts_and_replays() {
     let mut random = Random::new(55);
     let (mut fast, mut plain) = (vec![b'#'; 300_000], vec![b'#'; 300_000]);
-    let mut spaces = storage(256, 3, &mut random);
+    let mut lent = storage(256, 3, &mut random);
     for _ in 0..800 {
         let bytes = random_log(&mut random);
         let length = Fast.tally(&bytes, &mut fast).unwrap();
         assert_eq!(Reference.tally(&bytes, &mut plain), Ok(length));
         assert_eq!(fast, plain);
-        let mut other = spaces.clone();
-        assert_eq!(Fast.replay(&bytes, &mut spaces), Reference.replay(&bytes, &mut other));
-        assert_eq!(spaces, other);
+        let mut other = lent.clone();
+        assert_eq!(Fast.replay(&bytes, &mut lent), Reference.replay(&bytes, &mut other));
+        assert_eq!(lent, other);
         assert_eq!(Fast.tally(&bytes, &mut fast[..length - 1]), Err(10));
     }
 }
