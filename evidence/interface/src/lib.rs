@@ -2,6 +2,10 @@
 //! Only data and names: nothing here says how a call is answered.
 #![forbid(unsafe_code)]
 
+mod places;
+
+pub use places::{Guard, Places, ZONE};
+
 /// An enabled flow (document 01: a channel).
 #[derive(Clone, Copy, Debug, Default, PartialEq, Eq)]
 #[repr(C)]
@@ -23,10 +27,21 @@ pub struct Header {
 /// The lent storage, each list of any length and content: tag sets, policy sets (document 01: permitted sets), their counts, the flow table (the rack).
 #[derive(Clone, Debug, Default, PartialEq, Eq)]
 pub struct Lent {
-    pub tags: Vec<u64>,
-    pub policies: Vec<u64>,
-    pub counts: Vec<u8>,
-    pub flows: Vec<Flow>,
+    pub tags: Places<u64>,
+    pub policies: Places<u64>,
+    pub counts: Places<u8>,
+    pub flows: Places<Flow>,
+}
+
+impl Lent {
+    /// The first list around which something was written, and where.
+    pub fn overrun(&self) -> Option<String> {
+        self.tags
+            .overrun("tags")
+            .or_else(|| self.policies.overrun("policies"))
+            .or_else(|| self.counts.overrun("counts"))
+            .or_else(|| self.flows.overrun("flows"))
+    }
 }
 
 /// What an event, starting or adding a set answers: the refusal's number or 0, the gain, and the header that comes back.
