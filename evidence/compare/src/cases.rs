@@ -2,17 +2,18 @@
 use crate::breaks::{apply, breaks, Break};
 use crate::clauses::{tags, CLAUSES};
 use crate::counts::Class;
-use crate::inputs::{Random, MOST_BYTES, NUMBERS, SIZES, TABLE};
+use crate::inputs::{Random, MOST_BYTES, SIZES, TABLE};
 use crate::logs::{any_ends, damaged, exact_log, odd_number, put_number, Course, Refused, Steps, Written, DAMAGES, LIMITS, REFUSED, SHAPES};
 use crate::long::{long_replay, overlong_log, LONG_REPLAYS, OVERLONG};
 use crate::made::{lengthen, made_state};
+use crate::numbers::{numbers, CASES, WIDTHS};
 use crate::pair::{Checked, Pair, Tracker};
 use crate::states::{ample_storage, cut_to_need, lengths, right_policy, storage, Content, Pool, STATES};
 use crate::wide::{wide_course, WIDE};
 use interface::{Event, Flow, Header, Lent};
 
 /// Positions so far off that a sum with them may wrap, and those that are near ones in fewer bits.
-const FAR: [usize; 14] = [
+pub const FAR: [usize; 14] = [
     usize::MAX,
     usize::MAX - 1,
     usize::MAX - 4,
@@ -50,7 +51,7 @@ impl<'a> Run<'a> {
 /// How many cases a class has; the budget counts for those that are drawn, the others are lists that are always run whole.
 pub fn cases(class: Class, budget: u64) -> u64 {
     match class {
-        Class::Numbers => NUMBERS.len() as u64 + 3,
+        Class::Numbers => CASES as u64,
         Class::Strings => OVER_ALPHABET + 1 + 512,
         Class::Broken => (breaks().len() * STATES) as u64,
         Class::Records => budget * 32 / 100,
@@ -96,60 +97,6 @@ pub fn run_case(run: &mut Run, class: Class, case: u64, seed: u64) -> Checked<()
     }
 }
 
-/// A boundary value read and written in all places, or all fifth bytes after four equal groups.
-fn numbers(run: &mut Run, random: &mut Random, case: usize) -> Checked<()> {
-    let Some(value) = NUMBERS.get(case) else {
-        return fifth_bytes(run, [128, 129, 255][case - NUMBERS.len()]);
-    };
-    for length in 0..=8 {
-        let out = random.bytes(length);
-        for at in (0..=length + 2).chain(FAR) {
-            run.pair.input();
-            run.pair.encode(*value, &out, at)?;
-        }
-    }
-    let mut bytes = Vec::new();
-    put_number(&mut bytes, *value);
-    read_everywhere(run, &bytes)?;
-    let shortest = bytes.clone();
-    for cut in 0..shortest.len() {
-        read_everywhere(run, &shortest[..cut])?;
-    }
-    bytes.push(random.byte());
-    read_everywhere(run, &bytes)?;
-    for _ in 0..20 {
-        let odd = odd_number(random, *value);
-        read_everywhere(run, &odd)?;
-    }
-    Ok(())
-}
-
-/// Reads the number at every position, past the end and far past it.
-fn read_everywhere(run: &mut Run, bytes: &[u8]) -> Checked<()> {
-    for at in (0..=bytes.len() + 2).chain(FAR) {
-        run.pair.input();
-        run.pair.decode(bytes, at)?;
-        run.pair.read_record(bytes, at)?;
-    }
-    Ok(())
-}
-
-/// All fifth bytes after four equal groups, alone and with a byte after them.
-fn fifth_bytes(run: &mut Run, group: u8) -> Checked<()> {
-    for fifth in 0..=255 {
-        for tail in [&[][..], &[0], &[1], &[255]] {
-            let mut bytes = vec![group, group, group, group, fifth];
-            bytes.extend(tail);
-            run.pair.input();
-            run.pair.decode(&bytes, 0)?;
-            bytes.insert(0, 1);
-            run.pair.read_record(&bytes, 0)?;
-            run.pair.decode(&bytes, 1)?;
-        }
-    }
-    Ok(())
-}
-
 /// All strings of up to three bytes over the alphabet, of two bytes with this first one, of one byte, or over the alphabet with this beginning.
 fn strings(run: &mut Run, case: u64) -> Checked<()> {
     let mut list: Vec<Vec<u8>> = Vec::new();
@@ -165,12 +112,14 @@ fn strings(run: &mut Run, case: u64) -> Checked<()> {
         let beginning = [ALPHABET[place / 64], ALPHABET[place / 8 % 8], ALPHABET[place % 8]];
         list = suffixes(&beginning, 3);
     }
-    for string in &list {
+    for (place, string) in list.iter().enumerate() {
         run.pair.input();
-        run.pair.decode(string, 0)?;
+        run.pair.decode(string, 0, 32)?;
+        run.pair.decode(string, 0, WIDTHS[(case as usize + place) % WIDTHS.len()])?;
+        run.pair.read_head(string)?;
         run.pair.read_record(string, 0)?;
         if case <= OVER_ALPHABET {
-            run.pair.decode(string, 1)?;
+            run.pair.decode(string, 1, 32)?;
             run.pair.read_record(string, 1)?;
         }
     }
@@ -210,6 +159,7 @@ fn records(run: &mut Run, random: &mut Random) -> Checked<()> {
     let mut written = Written::default();
     written.event(event);
     let need = written.bytes.len();
+    run.pair.record_len(event)?;
     let at = random.below(4);
     for length in [0, at, at + need - 1, at + need, at + need + 1, at + need + 4, random.below(at + need + 1)] {
         let out = random.bytes(length);
@@ -229,6 +179,7 @@ fn records(run: &mut Run, random: &mut Random) -> Checked<()> {
         run.pair.read_record(&bytes, 0)?;
         let at = random.below(bytes.len() + 2);
         run.pair.read_record(&bytes, at)?;
+        run.pair.decode(&bytes, at, random.pick(&WIDTHS))?;
     }
     run.pair.read_record(&written.bytes, random.pick(&FAR))
 }
@@ -327,9 +278,14 @@ fn random_log(random: &mut Random, case: usize) -> Vec<u8> {
     (0..length).map(|_| if case.is_multiple_of(3) { random.draw() as u8 } else { random.byte() % 8 }).collect()
 }
 
-/// A log given to a replay in drawn storage and to `tally` with room for the text, too little and just enough.
+/// A log whose n is read and written, given to a replay in drawn storage and to `tally` with room for the text, too little and just enough.
 fn log_case(run: &mut Run, random: &mut Random, n: u32, bytes: &[u8]) -> Checked<()> {
     run.pair.input();
+    let room = random.below(6);
+    run.pair.write_head(n, &random.bytes(room))?;
+    run.pair.read_head(bytes)?;
+    let at = random.below(bytes.len() + 2);
+    run.pair.decode(bytes, at, random.pick(&WIDTHS))?;
     let mut lent = ample_storage(random, n);
     if random.once_in(8) {
         lent = one_too_short(random, lent, n);

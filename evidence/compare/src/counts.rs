@@ -14,14 +14,20 @@ pub enum Call {
     Replay,
     Decode,
     Encode,
+    ReadHead,
+    WriteHead,
     ReadRecord,
     WriteRecord,
+    RecordLen,
     Tally,
     Text,
 }
 
+/// How many calls there are.
+const CALL_COUNT: usize = 18;
+
 /// All calls, in the order of the table that is printed.
-pub const CALLS: [Call; 15] = [
+pub const CALLS: [Call; CALL_COUNT] = [
     Call::Start,
     Call::Enable,
     Call::Disable,
@@ -33,8 +39,11 @@ pub const CALLS: [Call; 15] = [
     Call::Replay,
     Call::Decode,
     Call::Encode,
+    Call::ReadHead,
+    Call::WriteHead,
     Call::ReadRecord,
     Call::WriteRecord,
+    Call::RecordLen,
     Call::Tally,
     Call::Text,
 ];
@@ -57,8 +66,11 @@ impl Call {
             Call::Replay => "replay",
             Call::Decode => "decode",
             Call::Encode => "encode",
+            Call::ReadHead => "read_head",
+            Call::WriteHead => "write_head",
             Call::ReadRecord => "read_record",
             Call::WriteRecord => "write_record",
+            Call::RecordLen => "record_len",
             Call::Tally => "tally",
             Call::Text => "tally, text",
         }
@@ -74,9 +86,10 @@ impl Call {
             Call::TagsOf | Call::SizeOf | Call::IsLegal => &[0, 4, 9, 12],
             Call::Rank => &[0, 9, 10, 12],
             Call::Replay => &[0, 1, 2, 3, 4, 5, 6, 7, 8, 9],
-            Call::Decode => &[0, 1, 2],
+            Call::Decode | Call::ReadHead => &[0, 1, 2],
             Call::ReadRecord => &[0, 1, 2, 3],
-            Call::Encode | Call::WriteRecord | Call::Tally => &[0, 10],
+            Call::Encode | Call::WriteHead | Call::WriteRecord | Call::Tally => &[0, 10],
+            Call::RecordLen => &[0],
             Call::Text => &[0, 1, 2, 3, 4, 5, 6, 7, 8, 9, 10],
         }
     }
@@ -170,27 +183,38 @@ pub struct Counts {
     /// Time spent on each class, in nanoseconds.
     pub time: [u64; CLASS_COUNT],
     /// Answers of each number, by class and call.
-    pub seen: Vec<[[u64; 13]; 15]>,
+    pub seen: Vec<[[u64; 13]; CALL_COUNT]>,
+    /// Answers 0, 1 and 2 of `decode`, by the width asked for; the last width stands for all above.
+    pub widths: Vec<[u64; 3]>,
     /// Answers no and yes to whether a container may be sent.
     pub legal: [u64; 2],
     /// Events held against the paper's sentence: enables as calls, events within replays.
     pub held: [u64; 2],
 }
 
+/// The widths of which the answers are counted: 0 to 66, and all above as one.
+const WIDTHS: usize = 68;
+
 /// What one class must have seen of one call.
 type Demand = (Class, &'static [Call], &'static [u32]);
 
 /// What each class must have seen, so that one that no longer reaches its aim is an error.
-const DEMANDS: [Demand; 31] = [
+const DEMANDS: [Demand; 37] = [
     (Class::Numbers, &[Call::Decode], &[0, 1, 2]),
-    (Class::Numbers, &[Call::Encode], &[0, 10]),
-    (Class::Strings, &[Call::Decode], &[0, 1, 2]),
+    (Class::Numbers, &[Call::Encode, Call::WriteHead], &[0, 10]),
+    (Class::Numbers, &[Call::ReadHead], &[0, 1, 2]),
+    (Class::Numbers, &[Call::RecordLen], &[0]),
+    (Class::Strings, &[Call::Decode, Call::ReadHead], &[0, 1, 2]),
     (Class::Strings, &[Call::ReadRecord], &[0, 1, 2, 3]),
     (Class::Records, &[Call::ReadRecord], &[0, 1, 2, 3]),
     (Class::Records, &[Call::WriteRecord], &[0, 10]),
+    (Class::Records, &[Call::Decode], &[0, 1, 2]),
+    (Class::Records, &[Call::RecordLen], &[0]),
     (Class::Logs, &[Call::Replay], &[0, 1, 2, 3, 4, 5, 6, 7, 8, 9]),
     (Class::Logs, &[Call::Text], &[0, 1, 2, 3, 4, 5, 6, 7, 8, 9]),
     (Class::Logs, &[Call::Tally], &[0, 10]),
+    (Class::Logs, &[Call::ReadHead], &[0, 1, 2]),
+    (Class::Logs, &[Call::WriteHead], &[0, 10]),
     (Class::Cuts, &[Call::Replay, Call::Text], &[0, 1]),
     (Class::LongLogs, &[Call::Replay], &[0, 1, 8]),
     (Class::LongLogs, &[Call::Text], &[0, 1, 8, 10]),
@@ -218,13 +242,18 @@ const DEMANDS: [Demand; 31] = [
 impl Counts {
     /// Nothing seen yet.
     pub fn new() -> Counts {
-        Counts { seen: vec![[[0; 13]; 15]; CLASSES.len()], ..Counts::default() }
+        Counts { seen: vec![[[0; 13]; CALL_COUNT]; CLASSES.len()], widths: vec![[0; 3]; WIDTHS], ..Counts::default() }
     }
 
     /// Counts one answer.
     pub fn note(&mut self, class: Class, call: Call, answer: u32) {
         self.calls[class as usize] += u64::from(call != Call::Text);
         self.seen[class as usize][call as usize][answer as usize] += 1;
+    }
+
+    /// Counts one answer of `decode` at a width.
+    pub fn note_width(&mut self, width: u32, answer: u32) {
+        self.widths[(width as usize).min(WIDTHS - 1)][answer as usize] += 1;
     }
 
     /// How often a call has answered this number, in all classes together.
@@ -250,6 +279,11 @@ impl Counts {
                 if self.seen[class as usize][call as usize][answer as usize] == 0 {
                     lines.push(format!("class {}: {} never answered {answer}", class.name(), call.name()));
                 }
+            }
+        }
+        for (width, answer) in (0..WIDTHS).flat_map(|width| (0..3).map(move |answer| (width, answer))) {
+            if self.widths[width][answer] == 0 {
+                lines.push(format!("decode at width {width} never answered {answer}"));
             }
         }
         for (held, word) in [(0, "enable"), (1, "event within a replay")] {
@@ -298,7 +332,7 @@ mod tests {
         let all = counts.missing().len();
         let single: usize = CALLS.iter().map(|call| call.answers().len()).sum();
         let demanded: usize = DEMANDS.iter().map(|(_, calls, answers)| calls.len() * answers.len()).sum();
-        assert_eq!(all, single + demanded + 4);
+        assert_eq!(all, single + demanded + 3 * WIDTHS + 4);
         counts.note(Class::Broken, Call::Enable, 12);
         assert_eq!(counts.missing().len(), all - 2);
         assert!(!counts.missing().contains(&"enable never answered 12".to_string()));

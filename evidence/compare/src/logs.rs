@@ -303,8 +303,13 @@ impl Written {
     }
 }
 
-/// Adds the shortest form of a number to some bytes.
+/// Adds the shortest form of a number of 32 bits to some bytes.
 pub fn put_number(bytes: &mut Vec<u8>, value: u32) {
+    put_wide(bytes, u64::from(value));
+}
+
+/// Adds the shortest form of a number to some bytes.
+pub fn put_wide(bytes: &mut Vec<u8>, value: u64) {
     let mut rest = value;
     while rest >= 128 {
         bytes.push(128 + (rest % 128) as u8);

@@ -30,14 +30,16 @@ pub fn made_state(random: &mut Random, case: usize) -> State {
 /// Two containers of which the second has the tag of the first, though nothing was ever enabled.
 fn smallest(random: &mut Random) -> State {
     let mut lent = longer_storage(random, 2, false);
-    lent.tags = vec![1, 0, 0, 0, 3, 0, 0, 0];
+    lent.tags = vec![1, 0, 0, 0, 3, 0, 0, 0].into();
     State { header: Header { containers: 2, count: 0, greatest: 0 }, lent }
 }
 
 /// Storage of zeros as long as needed; now and then much longer, with other content beyond.
 fn longer_storage(random: &mut Random, n: u32, longer: bool) -> Lent {
     let needed = lengths(n);
-    let mut lent = Lent { tags: vec![0; needed[0]], policies: vec![0; needed[1]], counts: vec![0; needed[2]], flows: vec![Flow::default(); needed[3]] };
+    let [tags, policies, counts, flows] = needed;
+    let (tags, policies) = (vec![0; tags].into(), vec![0; policies].into());
+    let mut lent = Lent { tags, policies, counts: vec![0; counts].into(), flows: vec![Flow::default(); flows].into() };
     if longer {
         lengthen(random, &mut lent);
     }

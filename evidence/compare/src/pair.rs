@@ -3,7 +3,8 @@ use crate::counts::{Call, Class, Counts};
 use crate::difference::{first_place, short_bytes, Account, Difference};
 use crate::inputs::TABLE;
 use crate::sentence;
-use interface::{Answer, Event, Flow, Header, Implementation, Lent, Replayed};
+use crate::side::{Left, Side};
+use interface::{Answer, Event, Flow, Header, Implementation, Lent, Places, Replayed};
 use std::cell::Cell;
 use std::fmt::Debug;
 
@@ -99,8 +100,8 @@ fn number_of<T>(answer: &Result<T, u32>) -> u32 {
 
 /// The two implementations, what they have been seen to answer, and the case that is run.
 pub struct Pair<'a> {
-    first: &'a dyn Implementation,
-    second: &'a dyn Implementation,
+    first: Side<'a>,
+    second: Side<'a>,
     pub counts: Counts,
     seed: u64,
     case: (Class, u64),
@@ -110,6 +111,7 @@ pub struct Pair<'a> {
 impl<'a> Pair<'a> {
     /// A pair that has seen nothing.
     pub fn new(first: &'a dyn Implementation, second: &'a dyn Implementation, seed: u64) -> Pair<'a> {
+        let (first, second) = (Side::new(first), Side::new(second));
         Pair { first, second, counts: Counts::new(), seed, case: (Class::Numbers, 0), call: Cell::new(None) }
     }
 
@@ -142,9 +144,17 @@ impl<'a> Pair<'a> {
         Box::new(Account { stopped: true, ..*account })
     }
 
-    /// Fails if the answers differ, if there is a place that differs, or if the number is none that this call may answer; counts it otherwise.
+    /// Where one of the two has written outside what it was lent since the last call that was compared.
+    fn overrun(&self) -> Option<String> {
+        let told = |side: &Side, name: &str| side.overrun().map(|place| format!("{name} wrote what it was not lent, {place}"));
+        told(&self.first, "the first").or_else(|| told(&self.second, "the second"))
+    }
+
+    /// Fails if one has written outside what it was lent, if the answers differ, if there is a place that differs, or if the number is none that this call may
+    /// answer; counts it otherwise.
     fn agree<T: PartialEq + Debug>(&mut self, call: Call, numbers: u32, answers: [&T; 2], place: Option<String>, arguments: &dyn Fn() -> String) -> Checked<()> {
         self.call.set(None);
+        let place = self.overrun().or(place);
         let shown = || answers.map(|answer| format!("{answer:?}"));
         if answers[0] != answers[1] {
             let place = place.unwrap_or_else(|| String::from("in the answer alone"));
@@ -258,11 +268,9 @@ impl<'a> Pair<'a> {
     /// The ranking, written into two copies of `out`.
     pub fn rank(&mut self, t: &Tracker, out: &[u16]) -> Checked<()> {
         self.call.set(Some(Call::Rank));
-        let (room, mut outs) = (out.len(), [zoned(out), zoned(out)]);
-        let answers = [self.first.rank(t.header, &t.first, &mut outs[0][..room]), self.second.rank(t.header, &t.second, &mut outs[1][..room])];
+        let (answers, outs) = apart([self.first.rank(t.header, &t.first, out), self.second.rank(t.header, &t.second, out)]);
         let written = if answers[0].is_ok() { t.header.containers as usize } else { 0 };
-        let place = zone_place(&mut outs, room)
-            .or_else(|| first_place("out", &outs[0], &outs[1]))
+        let place = first_place("out", &outs[0], &outs[1])
             .or_else(|| t.unlike(true))
             .or_else(|| first_place("out after the answer", &out[written.min(out.len())..], &outs[0][written.min(out.len())..]));
         let header = t.header;
@@ -272,11 +280,10 @@ impl<'a> Pair<'a> {
     /// A replay of a log in the tracker's storage.
     pub fn replay(&mut self, t: &mut Tracker, bytes: &[u8]) -> Checked<Replayed> {
         self.call.set(Some(Call::Replay));
-        let copy = bytes.to_vec();
         let answers = [self.first.replay(bytes, &mut t.first), self.second.replay(bytes, &mut t.second)];
         let answer = answers[0];
         let begun = answer.header.containers != 0;
-        let mut place = t.unlike(!begun).or_else(|| input_place(&copy, bytes));
+        let mut place = t.unlike(!begun);
         if place.is_none() && answers[0] == answers[1] {
             place = if begun { t.beyond(answer.header.containers) } else { self.unbegun(answer) };
             place = place.or_else(|| self.replay_rules(bytes, answer));
@@ -298,7 +305,7 @@ impl<'a> Pair<'a> {
         if n as u64 * answer.events > SENTENCE_COST && self.case.0 != Class::Wide {
             return None;
         }
-        let events = events_of(self.second, bytes, answer.events)?;
+        let events = self.second.events_of(bytes, answer.events)?;
         self.counts.held[1] += answer.events;
         let (sets, gain) = sentence::after_all(n, &events);
         let place = first_place("tags", &t.second.tags[..4 * n], &sets).or_else(|| first_place("gain", &[answer.gain], &[gain]));
@@ -320,82 +327,122 @@ impl<'a> Pair<'a> {
         if answer.byte != 0 {
             return Some(String::from("a complete replay answers a byte"));
         }
-        let alike = [self.first, self.second].iter().all(|one| written_again(*one, bytes).as_deref() == Some(bytes));
+        let alike = [&self.first, &self.second].iter().all(|one| one.writes_again(bytes));
         (!alike).then(|| String::from("the accepted log is not what would be written"))
     }
 
+    /// Where one of the two would write other bytes than those that both have accepted.
+    fn unlike_written(&self, accepted: Option<&[u8]>, write: &dyn Fn(&Side, &[u8]) -> Left<Result<usize, u32>, u8>) -> Option<String> {
+        let same = |side: &Side| {
+            let (end, out) = write(side, &[0; 24]);
+            end.is_ok_and(|end| accepted.is_some() && out.get(..end) == accepted)
+        };
+        (!same(&self.first) || !same(&self.second)).then(|| String::from("the accepted bytes are not those that would be written"))
+    }
+
+    /// Where one of the two does not read back what both have written.
+    fn unlike_read(&self, same: &dyn Fn(&Side) -> bool) -> Option<String> {
+        (!same(&self.first) || !same(&self.second)).then(|| String::from("read back it is not what was written"))
+    }
+
     /// The number at a position.
-    pub fn decode(&mut self, bytes: &[u8], at: usize) -> Checked<()> {
+    pub fn decode(&mut self, bytes: &[u8], at: usize, width: u32) -> Checked<()> {
         self.call.set(Some(Call::Decode));
-        let copy = bytes.to_vec();
-        let answers = [self.first.decode(bytes, at), self.second.decode(bytes, at)];
-        let mut place = input_place(&copy, bytes);
-        if let (Ok((value, end)), true) = (answers[0], answers[0] == answers[1] && place.is_none()) {
-            let same = |one: &dyn Implementation| {
-                let mut out = [0; 8];
-                one.encode(value, &mut out, 0).ok().map(|length| out[..length].to_vec()) == bytes.get(at..end).map(<[u8]>::to_vec)
-            };
-            place = (!same(self.first) || !same(self.second)).then(|| String::from("the accepted bytes are not those that would be written"));
+        let answers = [self.first.decode(bytes, at, width), self.second.decode(bytes, at, width)];
+        let mut place = None;
+        if let (Ok((value, end)), true) = (answers[0], answers[0] == answers[1]) {
+            let wide = bits(value) > width;
+            place = wide.then(|| String::from("the number has more bits than asked"));
+            place = place.or_else(|| self.unlike_written(bytes.get(at..end), &|side, out| side.encode(value, out, 0)));
         }
-        self.agree(Call::Decode, number_of(&answers[0]), [&answers[0], &answers[1]], place, &|| format!("{} at {at}", short_bytes(bytes)))
+        let number = number_of(&answers[0]);
+        let arguments = || format!("{} at {at}, {width} bits", short_bytes(bytes));
+        self.agree(Call::Decode, number, [&answers[0], &answers[1]], place, &arguments)?;
+        self.counts.note_width(width, number);
+        Ok(())
+    }
+
+    /// n at the start of a log.
+    pub fn read_head(&mut self, bytes: &[u8]) -> Checked<()> {
+        self.call.set(Some(Call::ReadHead));
+        let answers = [self.first.read_head(bytes), self.second.read_head(bytes)];
+        let mut place = None;
+        if let (Ok((n, end)), true) = (answers[0], answers[0] == answers[1]) {
+            place = self.unlike_written(bytes.get(..end), &|side, out| side.write_head(n, out));
+        }
+        self.agree(Call::ReadHead, number_of(&answers[0]), [&answers[0], &answers[1]], place, &|| short_bytes(bytes))
     }
 
     /// The record at a position.
     pub fn read_record(&mut self, bytes: &[u8], at: usize) -> Checked<()> {
         self.call.set(Some(Call::ReadRecord));
-        let copy = bytes.to_vec();
         let answers = [self.first.read_record(bytes, at), self.second.read_record(bytes, at)];
-        let mut place = input_place(&copy, bytes);
-        if let (Ok((event, end)), true) = (answers[0], answers[0] == answers[1] && place.is_none()) {
-            let same = |one: &dyn Implementation| {
-                let mut out = [0; 24];
-                one.write_record(event, &mut out, 0).ok().map(|length| out[..length].to_vec()) == bytes.get(at..end).map(<[u8]>::to_vec)
-            };
-            place = (!same(self.first) || !same(self.second)).then(|| String::from("the accepted bytes are not those that would be written"));
+        let mut place = None;
+        if let (Ok((event, end)), true) = (answers[0], answers[0] == answers[1]) {
+            place = self.unlike_written(bytes.get(at..end), &|side, out| side.write_record(event, out, 0));
         }
         self.agree(Call::ReadRecord, number_of(&answers[0]), [&answers[0], &answers[1]], place, &|| format!("{} at {at}", short_bytes(bytes)))
     }
 
-    /// Writing a number into two copies of `out`, and reading it back.
-    pub fn encode(&mut self, value: u32, out: &[u8], at: usize) -> Checked<()> {
+    /// Writing a number into two copies of `out`, and reading it back: with just its bits and with more, never with fewer.
+    pub fn encode(&mut self, value: u64, out: &[u8], at: usize) -> Checked<()> {
         self.call.set(Some(Call::Encode));
-        let (room, mut outs) = (out.len(), [zoned(out), zoned(out)]);
-        let answers = [self.first.encode(value, &mut outs[0][..room], at), self.second.encode(value, &mut outs[1][..room], at)];
-        let zone = zone_place(&mut outs, room);
-        let back = |one: &dyn Implementation, end: usize| one.decode(&outs[0], at) == Ok((value, end));
-        let mut place = written_place(out, &outs, at, answers[0]).or(zone);
+        let (answers, outs) = apart([self.first.encode(value, out, at), self.second.encode(value, out, at)]);
+        let mut place = written_place(out, &outs, at, answers[0]);
         if let (Ok(end), None) = (answers[0], &place) {
-            place = (!back(self.first, end) || !back(self.second, end)).then(|| String::from("read back it is not the same number"));
+            let few = bits(value).checked_sub(1);
+            let widths = if end == out.len() { 0..=WIDEST } else { few.unwrap_or(0)..=bits(value) };
+            let read = |width| if bits(value) <= width { Ok((value, end)) } else { Err(2) };
+            place = self.unlike_read(&|side| widths.clone().all(|width| side.decode(&outs[0], at, width) == read(width)));
         }
         let arguments = || format!("{value} into {} bytes at {at}", out.len());
         self.agree(Call::Encode, number_of(&answers[0]), [&answers[0], &answers[1]], place, &arguments)
     }
 
+    /// Writing n at the start of two copies of `out`, and reading it back.
+    pub fn write_head(&mut self, n: u32, out: &[u8]) -> Checked<()> {
+        self.call.set(Some(Call::WriteHead));
+        let (answers, outs) = apart([self.first.write_head(n, out), self.second.write_head(n, out)]);
+        let mut place = written_place(out, &outs, 0, answers[0]);
+        if let (Ok(end), None) = (answers[0], &place) {
+            place = self.unlike_read(&|side| side.read_head(&outs[0]) == Ok((n, end)));
+        }
+        let arguments = || format!("{n} into {} bytes", out.len());
+        self.agree(Call::WriteHead, number_of(&answers[0]), [&answers[0], &answers[1]], place, &arguments)
+    }
+
     /// Writing a record into two copies of `out`, and reading it back.
     pub fn write_record(&mut self, event: Event, out: &[u8], at: usize) -> Checked<()> {
         self.call.set(Some(Call::WriteRecord));
-        let (room, mut outs) = (out.len(), [zoned(out), zoned(out)]);
-        let answers = [self.first.write_record(event, &mut outs[0][..room], at), self.second.write_record(event, &mut outs[1][..room], at)];
-        let zone = zone_place(&mut outs, room);
-        let back = |one: &dyn Implementation, end: usize| one.read_record(&outs[0], at) == Ok((event, end));
-        let mut place = written_place(out, &outs, at, answers[0]).or(zone);
+        let (answers, outs) = apart([self.first.write_record(event, out, at), self.second.write_record(event, out, at)]);
+        let mut place = written_place(out, &outs, at, answers[0]);
         if let (Ok(end), None) = (answers[0], &place) {
-            place = (!back(self.first, end) || !back(self.second, end)).then(|| String::from("read back it is not the same event"));
+            place = self.unlike_read(&|side| side.read_record(&outs[0], at) == Ok((event, end)));
         }
         let arguments = || format!("{event:?} into {} bytes at {at}", out.len());
         self.agree(Call::WriteRecord, number_of(&answers[0]), [&answers[0], &answers[1]], place, &arguments)
     }
 
+    /// How many bytes a record takes: it is written into just so many, and one less is refused with 10.
+    pub fn record_len(&mut self, event: Event) -> Checked<()> {
+        self.call.set(Some(Call::RecordLen));
+        let answers = [self.first.record_len(event), self.second.record_len(event)];
+        let length = answers[0].clamp(1, 64);
+        let room = vec![0; length];
+        let fits = |side: &Side| {
+            let [just, less] = [length, length - 1].map(|room_left| side.write_record(event, &room[..room_left], 0).0);
+            (just, less) == (Ok(answers[0]), Err(10))
+        };
+        let place = (!fits(&self.first) || !fits(&self.second)).then(|| String::from("not the bytes that the record takes"));
+        self.agree(Call::RecordLen, 0, [&answers[0], &answers[1]], place, &|| format!("{event:?}"))
+    }
+
     /// The text of `tally`, written into two copies of `out`; answers its length where it fits.
     pub fn tally(&mut self, bytes: &[u8], out: &[u8]) -> Checked<Option<usize>> {
         self.call.set(Some(Call::Tally));
-        let copy = bytes.to_vec();
-        let mut outs = [zoned(out), zoned(out)];
-        let room = out.len();
-        let answers = [self.first.tally(bytes, &mut outs[0][..room]), self.second.tally(bytes, &mut outs[1][..room])];
-        let arguments = || format!("input {}, room for {room} bytes", short_bytes(bytes));
-        let zone = zone_place(&mut outs, room);
-        let place = written_place(out, &outs, 0, answers[0]).or(zone).or_else(|| input_place(&copy, bytes));
+        let (answers, outs) = apart([self.first.tally(bytes, out), self.second.tally(bytes, out)]);
+        let arguments = || format!("input {}, room for {} bytes", short_bytes(bytes), out.len());
+        let place = written_place(out, &outs, 0, answers[0]);
         self.agree(Call::Tally, number_of(&answers[0]), [&answers[0], &answers[1]], place, &arguments)?;
         let Ok(length) = answers[0] else { return Ok(None) };
         let refusal = text_refusal(&outs[0][..length]);
@@ -405,32 +452,21 @@ impl<'a> Pair<'a> {
     }
 }
 
-/// The places after an output that no call is lent.
-const ZONE: usize = 8;
+/// The widest numbers that are read back.
+const WIDEST: u32 = 66;
 
-/// A copy of an output in a larger buffer, with a zone of known content after it.
-fn zoned<T: Copy + From<u8>>(out: &[T]) -> Vec<T> {
-    let mut larger = Vec::with_capacity(out.len() + ZONE);
-    larger.extend_from_slice(out);
-    larger.resize(out.len() + ZONE, T::from(0xA5));
-    larger
+/// How many bits a number has.
+fn bits(value: u64) -> u32 {
+    u64::BITS - value.leading_zeros()
 }
 
-/// The first place of the zones that was written; the outputs come back without them.
-fn zone_place<T: Copy + From<u8> + PartialEq + Debug>(outs: &mut [Vec<T>; 2], room: usize) -> Option<String> {
-    let zone = [T::from(0xA5); ZONE];
-    let place = outs.iter().find_map(|out| first_place("past the end of the output", &zone, &out[room..]));
-    outs.iter_mut().for_each(|out| out.truncate(room));
-    place
-}
-
-/// The first byte of the input that a call has changed.
-fn input_place(copy: &[u8], bytes: &[u8]) -> Option<String> {
-    first_place("the input was written", copy, bytes)
+/// The answers of both, and the outputs of both.
+fn apart<T, O>([first, second]: [Left<T, O>; 2]) -> ([T; 2], [Places<O>; 2]) {
+    ([first.0, second.0], [first.1, second.1])
 }
 
 /// The first byte at which two outputs differ, or that lies outside the answer and was written all the same.
-fn written_place(out: &[u8], outs: &[Vec<u8>; 2], at: usize, answer: Result<usize, u32>) -> Option<String> {
+fn written_place(out: &[u8], outs: &[Places<u8>; 2], at: usize, answer: Result<usize, u32>) -> Option<String> {
     let both = first_place("out", &outs[0], &outs[1]);
     let (from, to) = match answer {
         Ok(end) => (at, end),
@@ -441,33 +477,6 @@ fn written_place(out: &[u8], outs: &[Vec<u8>; 2], at: usize, answer: Result<usiz
     }
     both.or_else(|| first_place("out before the answer", &out[..from], &outs[0][..from]))
         .or_else(|| first_place("out after the answer", &out[to..], &outs[0][to..]))
-}
-
-/// The first so many events of a log.
-fn events_of(one: &dyn Implementation, bytes: &[u8], many: u64) -> Option<Vec<Event>> {
-    let (_, mut at) = one.decode(bytes, 0).ok()?;
-    let mut events = Vec::new();
-    while (events.len() as u64) < many {
-        let (event, end) = one.read_record(bytes, at).ok()?;
-        events.push(event);
-        at = end;
-    }
-    Some(events)
-}
-
-/// The log that an implementation would write for the log that it has read.
-fn written_again(one: &dyn Implementation, bytes: &[u8]) -> Option<Vec<u8>> {
-    let mut out = vec![0; bytes.len()];
-    let (n, mut at) = one.decode(bytes, 0).ok()?;
-    one.encode(n, &mut out, 0).ok()?;
-    while at < bytes.len() {
-        let (event, end) = one.read_record(bytes, at).ok()?;
-        if one.write_record(event, &mut out, at) != Ok(end) {
-            return None;
-        }
-        at = end;
-    }
-    Some(out)
 }
 
 /// The refusal that the last line of a text names, 0 for the line of events, nothing for any other line.
@@ -495,24 +504,12 @@ mod tests {
         }
     }
 
-    /// A place written after the output is seen, and the zone is gone afterwards.
-    #[test]
-    fn zones_are_watched() {
-        for (at, seen) in [(2, false), (3, true), (2 + ZONE, true)] {
-            let mut outs = [zoned(&[1_u16, 2, 3]), zoned(&[1, 2, 3])];
-            outs[1][at] = 7;
-            assert_eq!(zone_place(&mut outs, 3).is_some(), seen);
-            assert!(outs.iter().all(|out| out.len() == 3));
-        }
-        assert!(input_place(&[1, 2], &[1, 3]).is_some() && input_place(&[1, 2], &[1, 2]).is_none());
-    }
-
     /// A byte written on refusal, before the answer or after it is a place; a byte within it is none.
     #[test]
     fn bytes_outside_the_answer_are_seen() {
         let out = [7; 6];
         let changed = |at: usize| {
-            let mut other = out.to_vec();
+            let mut other = Places::from(&out[..]);
             other[at] = 1;
             [other.clone(), other]
         };

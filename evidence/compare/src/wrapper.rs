@@ -36,10 +36,13 @@ type AddPolicy = fn(&Faulty, Header, &mut Lent, u32, [u64; 4]) -> Answer;
 type Question<T> = fn(&Faulty, Header, &Lent, u32) -> Result<T, u32>;
 type Rank = fn(&Faulty, Header, &Lent, &mut [u16]) -> Result<(), u32>;
 type Replay = fn(&Faulty, &[u8], &mut Lent) -> Replayed;
-type Decode = fn(&Faulty, &[u8], usize) -> Result<(u32, usize), u32>;
-type Encode = fn(&Faulty, u32, &mut [u8], usize) -> Result<usize, u32>;
+type Decode = fn(&Faulty, &[u8], usize, u32) -> Result<(u64, usize), u32>;
+type Encode = fn(&Faulty, u64, &mut [u8], usize) -> Result<usize, u32>;
+type ReadHead = fn(&Faulty, &[u8]) -> Result<(u32, usize), u32>;
+type WriteHead = fn(&Faulty, u32, &mut [u8]) -> Result<usize, u32>;
 type ReadRecord = fn(&Faulty, &[u8], usize) -> Result<(Event, usize), u32>;
 type WriteRecord = fn(&Faulty, Event, &mut [u8], usize) -> Result<usize, u32>;
+type RecordLen = fn(&Faulty, Event) -> usize;
 type Text = fn(&Faulty, &[u8]) -> String;
 type Tally = fn(&Faulty, &[u8], &mut [u8]) -> Result<usize, u32>;
 
@@ -57,8 +60,11 @@ pub struct Hooks {
     pub replay: Replay,
     pub decode: Decode,
     pub encode: Encode,
+    pub read_head: ReadHead,
+    pub write_head: WriteHead,
     pub read_record: ReadRecord,
     pub write_record: WriteRecord,
+    pub record_len: RecordLen,
     pub text: Text,
     pub tally: Tally,
 }
@@ -74,10 +80,13 @@ pub const RIGHT: Hooks = Hooks {
     is_legal: |f, header, lent, container| f.right.is_legal(header, lent, container),
     rank: |f, header, lent, out| f.right.rank(header, lent, out),
     replay: replay_by_calls,
-    decode: |f, bytes, at| f.right.decode(bytes, at),
+    decode: |f, bytes, at, width| f.right.decode(bytes, at, width),
     encode: |f, value, out, at| f.right.encode(value, out, at),
+    read_head: |f, bytes| number_32(f, bytes, 0),
+    write_head: |f, n, out| f.right.write_head(n, out),
     read_record: read_by_numbers,
     write_record: |f, event, out, at| f.right.write_record(event, out, at),
+    record_len: |f, event| f.right.record_len(event),
     text: text_by_calls,
     tally: tally_by_text,
 };
@@ -142,12 +151,20 @@ impl Implementation for Faulty<'_> {
         if self.scope == Scope::Replay { (self.hooks.replay)(self, bytes, lent) } else { self.right.replay(bytes, lent) }
     }
     /// Reading a number, wrong where the call alone is.
-    fn decode(&self, bytes: &[u8], at: usize) -> Result<(u32, usize), u32> {
-        (self.alone().decode)(self, bytes, at)
+    fn decode(&self, bytes: &[u8], at: usize, width: u32) -> Result<(u64, usize), u32> {
+        (self.alone().decode)(self, bytes, at, width)
     }
     /// Writing a number, wrong where the call alone is.
-    fn encode(&self, value: u32, out: &mut [u8], at: usize) -> Result<usize, u32> {
+    fn encode(&self, value: u64, out: &mut [u8], at: usize) -> Result<usize, u32> {
         (self.alone().encode)(self, value, out, at)
+    }
+    /// Reading n, wrong where the call alone is; the right one is not made of numbers here.
+    fn read_head(&self, bytes: &[u8]) -> Result<(u32, usize), u32> {
+        if self.scope == Scope::Calls { (self.hooks.read_head)(self, bytes) } else { self.right.read_head(bytes) }
+    }
+    /// Writing n, wrong where the call alone is.
+    fn write_head(&self, n: u32, out: &mut [u8]) -> Result<usize, u32> {
+        (self.alone().write_head)(self, n, out)
     }
     /// Reading a record, wrong where the call alone is; the right one is not made of numbers here.
     fn read_record(&self, bytes: &[u8], at: usize) -> Result<(Event, usize), u32> {
@@ -157,24 +174,33 @@ impl Implementation for Faulty<'_> {
     fn write_record(&self, event: Event, out: &mut [u8], at: usize) -> Result<usize, u32> {
         (self.alone().write_record)(self, event, out, at)
     }
+    /// A record's length, wrong where the call alone is.
+    fn record_len(&self, event: Event) -> usize {
+        (self.alone().record_len)(self, event)
+    }
     /// The text, wrong where `tally` is.
     fn tally(&self, bytes: &[u8], out: &mut [u8]) -> Result<usize, u32> {
         if self.scope == Scope::Tally { (self.hooks.tally)(self, bytes, out) } else { self.right.tally(bytes, out) }
     }
 }
 
+/// A number of 32 bits read with the wrapper's numbers.
+pub fn number_32(f: &Faulty, bytes: &[u8], at: usize) -> Result<(u32, usize), u32> {
+    (f.hooks.decode)(f, bytes, at, 32).map(|(value, end)| (value as u32, end))
+}
+
 /// A record read field by field with the wrapper's numbers.
 pub fn read_by_numbers(f: &Faulty, bytes: &[u8], at: usize) -> Result<(Event, usize), u32> {
-    let (kind, at) = (f.hooks.decode)(f, bytes, at)?;
+    let (kind, at) = number_32(f, bytes, at)?;
     if kind > 1 {
         return Err(3);
     }
-    let (number, at) = (f.hooks.decode)(f, bytes, at)?;
+    let (number, at) = number_32(f, bytes, at)?;
     if kind == 1 {
         return Ok((Event::Disable(number), at));
     }
-    let (from, at) = (f.hooks.decode)(f, bytes, at)?;
-    let (to, at) = (f.hooks.decode)(f, bytes, at)?;
+    let (from, at) = number_32(f, bytes, at)?;
+    let (to, at) = number_32(f, bytes, at)?;
     Ok((Event::Enable(Flow { number, from, to }), at))
 }
 
@@ -191,7 +217,7 @@ pub fn one_record(f: &Faulty, bytes: &[u8], at: usize, header: Header, lent: &mu
 /// A replay made of the wrapper's calls.
 pub fn replay_by_calls(f: &Faulty, bytes: &[u8], lent: &mut Lent) -> Replayed {
     let alone = |refusal| Replayed { refusal, ..Replayed::default() };
-    let (n, mut at) = match (f.hooks.decode)(f, bytes, 0) {
+    let (n, mut at) = match (f.hooks.read_head)(f, bytes) {
         Ok(read) => read,
         Err(refusal) => return alone(refusal),
     };
@@ -214,7 +240,7 @@ pub fn replay_by_calls(f: &Faulty, bytes: &[u8], lent: &mut Lent) -> Replayed {
 
 /// Storage for as many containers as there can be.
 pub fn ample() -> Lent {
-    Lent { tags: vec![0; 1024], policies: vec![0; 4096], counts: vec![0; 256], flows: vec![Flow::default(); TABLE] }
+    Lent { tags: vec![0; 1024].into(), policies: vec![0; 4096].into(), counts: vec![0; 256].into(), flows: vec![Flow::default(); TABLE].into() }
 }
 
 /// The text of `tally` made of the wrapper's replay and ranking.

@@ -11,7 +11,7 @@ pub fn written() -> Vec<Written> {
 /// Faults that take a position in 32 bits.
 fn positions() -> Vec<Written> {
     vec![
-        ("a position is taken in 32 bits in decode", CALLS, Hooks { decode: |f, b, at| f.right.decode(b, at as u32 as usize), ..RIGHT }),
+        ("a position is taken in 32 bits in decode", CALLS, Hooks { decode: |f, b, at, w| f.right.decode(b, at as u32 as usize, w), ..RIGHT }),
         ("a position is taken in 32 bits in encode", CALLS, Hooks { encode: |f, v, out, at| f.right.encode(v, out, at as u32 as usize), ..RIGHT }),
         ("a position is taken in 32 bits in read_record", CALLS, Hooks { read_record: |f, b, at| f.right.read_record(b, at as u32 as usize), ..RIGHT }),
         ("a position is taken in 32 bits in write_record", CALLS, Hooks { write_record: |f, e, out, at| f.right.write_record(e, out, at as u32 as usize), ..RIGHT }),
@@ -36,23 +36,23 @@ fn events_modulo(f: &Faulty, bytes: &[u8], lent: &mut Lent, modulo: u64) -> Repl
     Replayed { events: run.events % modulo, ..run }
 }
 
-/// Faults of reading numbers.
+/// Faults of reading numbers of 32 bits.
 fn numbers() -> Vec<Written> {
     vec![
-        ("a long number is accepted", ALL, Hooks { decode: long_accepted, ..RIGHT }),
-        ("a long zero is accepted", ALL, Hooks { decode: long_zero_accepted, ..RIGHT }),
-        ("a fifth byte of 16 is accepted", ALL, Hooks { decode: |f, b, at| fifth_accepted(f, b, at, |byte| byte == 16), ..RIGHT }),
-        ("a fifth byte above 127 is accepted", CALLS, Hooks { decode: |f, b, at| fifth_accepted(f, b, at, |byte| byte > 127), ..RIGHT }),
-        ("a fifth byte is taken by its low bits", CALLS, Hooks { decode: |f, b, at| fifth_accepted(f, b, at, |byte| byte % 128 < 16), ..RIGHT }),
-        ("a fifth byte of 15 is refused", ALL, Hooks { decode: fifteen_refused, ..RIGHT }),
-        ("a fifth byte of 0 is accepted", CALLS, Hooks { decode: |f, b, at| fifth_accepted(f, b, at, |byte| byte == 0), ..RIGHT }),
-        ("a fifth byte that asks for a sixth is cut short", CALLS, Hooks { decode: sixth_asked, ..RIGHT }),
-        ("a cut number is long", ALL, Hooks { decode: |f, b, at| f.right.decode(b, at).map_err(|_| 2), ..RIGHT }),
-        ("a cut number is taken as far as it goes", ALL, Hooks { decode: cut_accepted, ..RIGHT }),
-        ("a position past the end is answered with 2", CALLS, Hooks { decode: |f, b, at| if at > b.len() { Err(2) } else { f.right.decode(b, at) }, ..RIGHT }),
-        ("the last position wraps", CALLS, Hooks { decode: |f, b, at| f.right.decode(b, if at == usize::MAX { 0 } else { at }), ..RIGHT }),
-        ("the position after a long form is wrong", CALLS, Hooks { decode: |f, b, at| f.right.decode(b, at).map(|(v, end)| (v, end + usize::from(v > 268_435_455))), ..RIGHT }),
-        ("the fifth group is lost", ALL, Hooks { decode: |f, b, at| f.right.decode(b, at).map(|(v, end)| (v % 268_435_456, end)), ..RIGHT }),
+        ("a long number is accepted", ALL, Hooks { decode: |f, b, at, w| at_32(f, b, at, w, long_accepted), ..RIGHT }),
+        ("a long zero is accepted", ALL, Hooks { decode: |f, b, at, w| at_32(f, b, at, w, long_zero_accepted), ..RIGHT }),
+        ("a fifth byte of 16 is accepted", ALL, Hooks { decode: |f, b, at, w| at_32(f, b, at, w, |f, b, at| fifth_accepted(f, b, at, |byte| byte == 16)), ..RIGHT }),
+        ("a fifth byte above 127 is accepted", CALLS, Hooks { decode: |f, b, at, w| at_32(f, b, at, w, |f, b, at| fifth_accepted(f, b, at, |byte| byte > 127)), ..RIGHT }),
+        ("a fifth byte is taken by its low bits", CALLS, Hooks { decode: |f, b, at, w| at_32(f, b, at, w, |f, b, at| fifth_accepted(f, b, at, |byte| byte % 128 < 16)), ..RIGHT }),
+        ("a fifth byte of 15 is refused", ALL, Hooks { decode: |f, b, at, w| at_32(f, b, at, w, fifteen_refused), ..RIGHT }),
+        ("a fifth byte of 0 is accepted", CALLS, Hooks { decode: |f, b, at, w| at_32(f, b, at, w, |f, b, at| fifth_accepted(f, b, at, |byte| byte == 0)), ..RIGHT }),
+        ("a fifth byte that asks for a sixth is cut short", CALLS, Hooks { decode: |f, b, at, w| at_32(f, b, at, w, sixth_asked), ..RIGHT }),
+        ("a cut number is long", ALL, Hooks { decode: |f, b, at, w| at_32(f, b, at, w, |f, b, at| f.right.decode(b, at, 32).map_err(|_| 2)), ..RIGHT }),
+        ("a cut number is taken as far as it goes", ALL, Hooks { decode: |f, b, at, w| at_32(f, b, at, w, cut_accepted), ..RIGHT }),
+        ("a position past the end is answered with 2", CALLS, Hooks { decode: |f, b, at, w| at_32(f, b, at, w, |f, b, at| if at > b.len() { Err(2) } else { f.right.decode(b, at, 32) }), ..RIGHT }),
+        ("the last position wraps", CALLS, Hooks { decode: |f, b, at, w| at_32(f, b, at, w, |f, b, at| f.right.decode(b, if at == usize::MAX { 0 } else { at }, 32)), ..RIGHT }),
+        ("the position after a long form is wrong", CALLS, Hooks { decode: |f, b, at, w| at_32(f, b, at, w, |f, b, at| f.right.decode(b, at, 32).map(|(v, end)| (v, end + usize::from(v > 268_435_455)))), ..RIGHT }),
+        ("the fifth group is lost", ALL, Hooks { decode: |f, b, at, w| at_32(f, b, at, w, |f, b, at| f.right.decode(b, at, 32).map(|(v, end)| (v % 268_435_456, end))), ..RIGHT }),
     ]
 }
 
@@ -109,65 +109,70 @@ fn replays() -> Vec<Written> {
     ]
 }
 
+/// A number read wrongly where it has 32 bits, and rightly at every other width.
+fn at_32(f: &Faulty, bytes: &[u8], at: usize, width: u32, wrong: impl Fn(&Faulty, &[u8], usize) -> Result<(u64, usize), u32>) -> Result<(u64, usize), u32> {
+    if width == 32 { wrong(f, bytes, at) } else { f.right.decode(bytes, at, width) }
+}
+
 /// The value and the end of up to five groups, whatever their form.
-fn loose(bytes: &[u8], at: usize) -> Option<(u32, usize)> {
+fn loose(bytes: &[u8], at: usize) -> Option<(u64, usize)> {
     let mut value = 0_u64;
     for (place, byte) in bytes.get(at..)?.iter().take(5).enumerate() {
         value |= u64::from(byte % 128) << (7 * place);
         if *byte < 128 || place == 4 {
-            return Some((value as u32, at + place + 1));
+            return Some((value % (1 << 32), at + place + 1));
         }
     }
     None
 }
 
 /// Accepts a last group of 0.
-fn long_accepted(f: &Faulty, bytes: &[u8], at: usize) -> Result<(u32, usize), u32> {
-    match (f.right.decode(bytes, at), loose(bytes, at)) {
+fn long_accepted(f: &Faulty, bytes: &[u8], at: usize) -> Result<(u64, usize), u32> {
+    match (f.right.decode(bytes, at, 32), loose(bytes, at)) {
         (Err(2), Some((value, end))) if bytes[end - 1] == 0 => Ok((value, end)),
         (given, _) => given,
     }
 }
 
 /// Accepts 128 0.
-fn long_zero_accepted(f: &Faulty, bytes: &[u8], at: usize) -> Result<(u32, usize), u32> {
-    match (f.right.decode(bytes, at), loose(bytes, at)) {
+fn long_zero_accepted(f: &Faulty, bytes: &[u8], at: usize) -> Result<(u64, usize), u32> {
+    match (f.right.decode(bytes, at, 32), loose(bytes, at)) {
         (Err(2), Some((0, end))) if end - at == 2 => Ok((0, end)),
         (given, _) => given,
     }
 }
 
 /// Accepts some of the fifth bytes that are refused.
-fn fifth_accepted(f: &Faulty, bytes: &[u8], at: usize, which: impl Fn(u8) -> bool) -> Result<(u32, usize), u32> {
-    match (f.right.decode(bytes, at), loose(bytes, at)) {
+fn fifth_accepted(f: &Faulty, bytes: &[u8], at: usize, which: impl Fn(u8) -> bool) -> Result<(u64, usize), u32> {
+    match (f.right.decode(bytes, at, 32), loose(bytes, at)) {
         (Err(2), Some((value, end))) if end - at == 5 && which(bytes[end - 1]) => Ok((value, end)),
         (given, _) => given,
     }
 }
 
 /// Refuses a fifth byte of 15.
-fn fifteen_refused(f: &Faulty, bytes: &[u8], at: usize) -> Result<(u32, usize), u32> {
-    f.right.decode(bytes, at).and_then(|(value, end)| if value >= 0xF000_0000 { Err(2) } else { Ok((value, end)) })
+fn fifteen_refused(f: &Faulty, bytes: &[u8], at: usize) -> Result<(u64, usize), u32> {
+    f.right.decode(bytes, at, 32).and_then(|(value, end)| if value >= 0xF000_0000 { Err(2) } else { Ok((value, end)) })
 }
 
 /// Answers 1 where the fifth byte is above 127 and nothing follows it.
-fn sixth_asked(f: &Faulty, bytes: &[u8], at: usize) -> Result<(u32, usize), u32> {
-    match (f.right.decode(bytes, at), loose(bytes, at)) {
+fn sixth_asked(f: &Faulty, bytes: &[u8], at: usize) -> Result<(u64, usize), u32> {
+    match (f.right.decode(bytes, at, 32), loose(bytes, at)) {
         (Err(2), Some((_, end))) if end == bytes.len() && bytes[end - 1] > 127 => Err(1),
         (given, _) => given,
     }
 }
 
 /// Takes the end of the bytes for the end of a number that has begun.
-fn cut_accepted(f: &Faulty, bytes: &[u8], at: usize) -> Result<(u32, usize), u32> {
-    match f.right.decode(bytes, at) {
-        Err(1) if at < bytes.len() => Ok((u32::from(bytes[at] % 128), bytes.len())),
+fn cut_accepted(f: &Faulty, bytes: &[u8], at: usize) -> Result<(u64, usize), u32> {
+    match f.right.decode(bytes, at, 32) {
+        Err(1) if at < bytes.len() => Ok((u64::from(bytes[at] % 128), bytes.len())),
         given => given,
     }
 }
 
 /// Writes what fits of a number before it refuses.
-fn number_part(f: &Faulty, value: u32, out: &mut [u8], at: usize) -> Result<usize, u32> {
+fn number_part(f: &Faulty, value: u64, out: &mut [u8], at: usize) -> Result<usize, u32> {
     let given = f.right.encode(value, out, at);
     if let (Err(10), Some(byte)) = (given, out.get_mut(at)) {
         *byte = value as u8 | 128;
@@ -176,7 +181,7 @@ fn number_part(f: &Faulty, value: u32, out: &mut [u8], at: usize) -> Result<usiz
 }
 
 /// Refuses an output in which a number just fits.
-fn number_needs(f: &Faulty, value: u32, out: &mut [u8], at: usize) -> Result<usize, u32> {
+fn number_needs(f: &Faulty, value: u64, out: &mut [u8], at: usize) -> Result<usize, u32> {
     let mut other = out.to_vec();
     let end = f.right.encode(value, &mut other, at)?;
     if end == out.len() {
@@ -187,7 +192,7 @@ fn number_needs(f: &Faulty, value: u32, out: &mut [u8], at: usize) -> Result<usi
 }
 
 /// Clears the byte after a number.
-fn number_clears(f: &Faulty, value: u32, out: &mut [u8], at: usize) -> Result<usize, u32> {
+fn number_clears(f: &Faulty, value: u64, out: &mut [u8], at: usize) -> Result<usize, u32> {
     let end = f.right.encode(value, out, at)?;
     if let Some(byte) = out.get_mut(end) {
         *byte = 0;
@@ -196,7 +201,7 @@ fn number_clears(f: &Faulty, value: u32, out: &mut [u8], at: usize) -> Result<us
 }
 
 /// Adds a group of 0 where there is room.
-fn long_written(f: &Faulty, value: u32, out: &mut [u8], at: usize) -> Result<usize, u32> {
+fn long_written(f: &Faulty, value: u64, out: &mut [u8], at: usize) -> Result<usize, u32> {
     let end = f.right.encode(value, out, at)?;
     if end >= out.len() {
         return Ok(end);
@@ -207,24 +212,24 @@ fn long_written(f: &Faulty, value: u32, out: &mut [u8], at: usize) -> Result<usi
 }
 
 /// Writes the groups in falling order.
-fn turned_written(f: &Faulty, value: u32, out: &mut [u8], at: usize) -> Result<usize, u32> {
+fn turned_written(f: &Faulty, value: u64, out: &mut [u8], at: usize) -> Result<usize, u32> {
     let end = f.right.encode(value, out, at)?;
     out[at..end].reverse();
     Ok(end)
 }
 
 /// Reads groups in falling order where the bytes are such a number.
-fn turned_read(f: &Faulty, bytes: &[u8], at: usize) -> Result<(u32, usize), u32> {
-    for end in at.saturating_add(1)..=bytes.len().min(at.saturating_add(5)) {
+fn turned_read(f: &Faulty, bytes: &[u8], at: usize, width: u32) -> Result<(u64, usize), u32> {
+    for end in at.saturating_add(1)..=bytes.len().min(at.saturating_add(10)) {
         let mut part = bytes[at..end].to_vec();
         part.reverse();
-        if let Ok((value, length)) = f.right.decode(&part, 0) {
+        if let Ok((value, length)) = f.right.decode(&part, 0, width) {
             if length == part.len() && length > 1 {
                 return Ok((value, end));
             }
         }
     }
-    f.right.decode(bytes, at)
+    f.right.decode(bytes, at, width)
 }
 
 /// Writes the kind before it refuses a record.
@@ -259,20 +264,20 @@ fn turned(event: Event) -> Event {
 fn kind_after_fields(f: &Faulty, bytes: &[u8], at: usize) -> Result<(Event, usize), u32> {
     let given = read_by_numbers(f, bytes, at);
     if given == Err(3) {
-        let (_, at) = f.right.decode(bytes, at)?;
-        f.right.decode(bytes, at)?;
+        let (_, at) = f.right.decode(bytes, at, 32)?;
+        f.right.decode(bytes, at, 32)?;
     }
     given
 }
 
 /// Takes some unknown kinds for a disable.
-fn kind_taken(f: &Faulty, bytes: &[u8], at: usize, which: impl Fn(u32) -> bool) -> Result<(Event, usize), u32> {
+fn kind_taken(f: &Faulty, bytes: &[u8], at: usize, which: impl Fn(u64) -> bool) -> Result<(Event, usize), u32> {
     let given = read_by_numbers(f, bytes, at);
-    let (kind, after) = f.right.decode(bytes, at)?;
+    let (kind, after) = f.right.decode(bytes, at, 32)?;
     if given != Err(3) || !which(kind) {
         return given;
     }
-    f.right.decode(bytes, after).map(|(number, end)| (Event::Disable(number), end))
+    f.right.decode(bytes, after, 32).map(|(number, end)| (Event::Disable(number as u32), end))
 }
 
 /// Refuses every kind whose first byte is not 0 or 1 as unknown.
@@ -294,8 +299,8 @@ fn judging(f: &Faulty, bytes: &[u8], at: usize) -> Result<(Event, usize), u32> {
 /// Answers 1 where a number of an enable is long and the bytes end there.
 fn later_field(f: &Faulty, bytes: &[u8], at: usize) -> Result<(Event, usize), u32> {
     let given = read_by_numbers(f, bytes, at);
-    match f.right.decode(bytes, at) {
-        Ok((0, after)) if given == Err(2) && f.right.decode(bytes, after) == Err(2) => match loose(bytes, after) {
+    match f.right.decode(bytes, at, 32) {
+        Ok((0, after)) if given == Err(2) && f.right.decode(bytes, after, 32) == Err(2) => match loose(bytes, after) {
             Some((_, end)) if end == bytes.len() => Err(1),
             _ => given,
         },
@@ -361,8 +366,8 @@ fn last_gain(f: &Faulty, bytes: &[u8], lent: &mut Lent) -> Replayed {
     let mut other = lent.clone();
     let run = replay_by_calls(f, bytes, lent);
     let (mut end, mut last) = (0, 0);
-    while let Ok((event, after)) = f.right.read_record(bytes, end.max(f.right.decode(bytes, 0).map_or(0, |(_, at)| at))) {
-        last = if matches!(event, Event::Enable(_)) { end.max(f.right.decode(bytes, 0).map_or(0, |(_, at)| at)) } else { after };
+    while let Ok((event, after)) = f.right.read_record(bytes, end.max(f.right.read_head(bytes).map_or(0, |(_, at)| at))) {
+        last = if matches!(event, Event::Enable(_)) { end.max(f.right.read_head(bytes).map_or(0, |(_, at)| at)) } else { after };
         if run.refusal != 0 && after as u64 > run.byte {
             break;
         }
@@ -404,7 +409,7 @@ fn nine_first(f: &Faulty, bytes: &[u8], lent: &mut Lent) -> Replayed {
 
 /// Refuses storage that is too short for 256 containers.
 fn needs_all(f: &Faulty, bytes: &[u8], lent: &mut Lent) -> Replayed {
-    if lent.tags.len() < 1024 && f.right.decode(bytes, 0).is_ok() {
+    if lent.tags.len() < 1024 && f.right.read_head(bytes).is_ok() {
         return Replayed { refusal: 9, ..Replayed::default() };
     }
     replay_by_calls(f, bytes, lent)
