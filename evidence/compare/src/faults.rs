@@ -7,10 +7,12 @@ use interface::Implementation;
 mod bytes;
 mod clauses;
 mod events;
+mod overruns;
 pub mod programs;
 mod questions;
 mod strict;
 mod texts;
+mod widths;
 
 /// A way to be wrong: its name, the calls that are wrong, and where they are used.
 #[derive(Clone)]
@@ -49,10 +51,11 @@ fn of_written((name, scopes, hooks): Written) -> Vec<Fault> {
 
 /// All faults.
 pub fn faults() -> Vec<Fault> {
-    let written = [events::written(), questions::written(), bytes::written(), texts::written()].concat();
+    let written = [events::written(), questions::written(), bytes::written(), widths::written(), texts::written()].concat();
     let mut list: Vec<Fault> = written.into_iter().flat_map(of_written).collect();
     list.extend(clauses::aimed());
     list.extend(strict::aimed());
+    list.extend(overruns::aimed());
     list
 }
 

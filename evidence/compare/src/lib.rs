@@ -1,5 +1,6 @@
 //! Compares two implementations of the tracker on many inputs, and shows with wrong implementations that the comparison can fail.
-#![forbid(unsafe_code)]
+// faults/overruns.rs alone writes through a pointer, into places that guard zones stand on.
+#![deny(unsafe_code)]
 
 pub mod breaks;
 pub mod cases;

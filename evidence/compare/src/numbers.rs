@@ -58,15 +58,11 @@ fn end_of(place: usize) -> u64 {
 fn number_32(run: &mut Run, random: &mut Random, value: u32) -> Checked<()> {
     for length in 0..=8 {
         let out = random.bytes(length);
-        run.pair.write_head(value, &out)?;
         for at in (0..=length + 2).chain(FAR) {
             run.pair.input();
             run.pair.encode(u64::from(value), &out, at)?;
         }
-    }
-    run.pair.record_len(Event::Disable(value))?;
-    for [number, from, to] in [[value, 0, 0], [0, value, 0], [0, 0, value], [value; 3]] {
-        run.pair.record_len(Event::Enable(Flow { number, from, to }))?;
+        run.pair.write_head(value, &out)?;
     }
     for bytes in forms(random, u64::from(value)) {
         read_everywhere(run, &bytes)?;
@@ -75,18 +71,20 @@ fn number_32(run: &mut Run, random: &mut Random, value: u32) -> Checked<()> {
         let odd = odd_number(random, value);
         read_everywhere(run, &odd)?;
     }
-    Ok(())
+    for [number, from, to] in [[value, 0, 0], [0, value, 0], [0, 0, value], [value; 3]] {
+        run.pair.record_len(Event::Enable(Flow { number, from, to }))?;
+    }
+    run.pair.record_len(Event::Disable(value))
 }
 
-/// Reads n, and the number and the record at every position, past the end and far past it.
+/// Reads the number and the record at every position, past the end and far past it, and n.
 fn read_everywhere(run: &mut Run, bytes: &[u8]) -> Checked<()> {
-    run.pair.read_head(bytes)?;
     for at in (0..=bytes.len() + 2).chain(FAR) {
         run.pair.input();
         run.pair.decode(bytes, at, 32)?;
         run.pair.read_record(bytes, at)?;
     }
-    Ok(())
+    run.pair.read_head(bytes)
 }
 
 /// All fifth bytes after four equal groups, alone and with a byte after them.
@@ -106,25 +104,23 @@ fn fifth_bytes(run: &mut Run, group: u8) -> Checked<()> {
     Ok(())
 }
 
-/// All last bytes that numbers of this width can have, after equal groups, at this width and the next.
+/// All last bytes that numbers of this width can have, after equal groups.
 fn last_bytes(run: &mut Run, width: u32) -> Checked<()> {
     let groups = width.max(1).div_ceil(7) as usize;
     for last in 0..=255 {
-        for group in [128, 255] {
-            let mut bytes = vec![group; groups - 1];
-            bytes.push(last);
-            run.pair.input();
-            run.pair.decode(&bytes, 0, width)?;
-            run.pair.decode(&bytes, 0, width + 1)?;
-        }
+        let mut bytes = vec![if (width + u32::from(last)).is_multiple_of(2) { 128 } else { 255 }; groups - 1];
+        bytes.push(last);
+        run.pair.input();
+        run.pair.decode(&bytes, 0, width)?;
     }
     Ok(())
 }
 
-/// A value written into outputs of lengths around its need, and its forms read at every width and at every position.
+/// A value written into outputs of lengths around its need; its only form read at every width and at every position, the
+/// others at the widths around its own.
 fn wide_number(run: &mut Run, random: &mut Random, value: u64) -> Checked<()> {
     let list = forms(random, value);
-    let need = list[0].len();
+    let (need, bits) = (list[0].len(), 64 - value.leading_zeros());
     for length in [0, need - 1, need, need + 1, need + 3] {
         let out = random.bytes(length);
         for at in (0..=length + 2).chain(FAR) {
@@ -132,13 +128,17 @@ fn wide_number(run: &mut Run, random: &mut Random, value: u64) -> Checked<()> {
             run.pair.encode(value, &out, at)?;
         }
     }
-    for bytes in &list {
-        for width in WIDTHS {
+    for width in WIDTHS {
+        run.pair.input();
+        run.pair.decode(&list[0], 0, width)?;
+    }
+    for at in (1..=need + 2).chain(FAR) {
+        run.pair.decode(&list[0], at, random.pick(&WIDTHS))?;
+    }
+    for bytes in &list[1..] {
+        for width in [bits.saturating_sub(1), bits, bits + 1, bits + 7, 64, random.pick(&WIDTHS)] {
             run.pair.input();
             run.pair.decode(bytes, 0, width)?;
-        }
-        for at in (1..=bytes.len() + 2).chain(FAR) {
-            run.pair.decode(bytes, at, random.pick(&WIDTHS))?;
         }
         let begin = random.below(9);
         let later = [random.bytes(begin), bytes.clone()].concat();

@@ -391,7 +391,7 @@ impl<'a> Pair<'a> {
         let mut place = written_place(out, &outs, at, answers[0]);
         if let (Ok(end), None) = (answers[0], &place) {
             let few = bits(value).checked_sub(1);
-            let widths = if end == out.len() { 0..=WIDEST } else { few.unwrap_or(0)..=bits(value) };
+            let widths = if (at, end) == (0, out.len()) { 0..=WIDEST } else { few.unwrap_or(0)..=bits(value) };
             let read = |width| if bits(value) <= width { Ok((value, end)) } else { Err(2) };
             place = self.unlike_read(&|side| widths.clone().all(|width| side.decode(&outs[0], at, width) == read(width)));
         }

@@ -2,7 +2,7 @@
 //! inputs and outputs a copy is lent. Whatever a call writes outside its lists, or into an input, is kept until asked for.
 use crate::difference::first_place;
 use interface::{Answer, Event, Flow, Guard, Header, Implementation, Lent, Places, Replayed};
-use std::cell::RefCell;
+use std::cell::{Cell, RefCell};
 use std::hint::black_box;
 use std::ops::Deref;
 
@@ -13,12 +13,14 @@ pub type Left<T, O> = (T, Places<O>);
 pub struct Side<'a> {
     one: &'a dyn Implementation,
     overrun: RefCell<Option<String>>,
+    /// An allocation that the copy of the last input stood in.
+    room: Cell<Option<Places<u8>>>,
 }
 
 impl<'a> Side<'a> {
     /// An implementation that has written nowhere.
     pub fn new(one: &'a dyn Implementation) -> Side<'a> {
-        Side { one, overrun: RefCell::new(None) }
+        Side { one, overrun: RefCell::new(None), room: Cell::new(None) }
     }
 
     /// The first place outside its lists that was written since this was last asked.
@@ -28,8 +30,8 @@ impl<'a> Side<'a> {
 
     /// Keeps the first of these places.
     fn keep(&self, place: Option<String>) {
-        if self.overrun.borrow().is_none() {
-            *self.overrun.borrow_mut() = place;
+        if let Some(place) = place {
+            self.overrun.borrow_mut().get_or_insert(place);
         }
     }
 
@@ -43,10 +45,13 @@ impl<'a> Side<'a> {
     /// Lends a copy of the input, which nobody may change. `black_box`: that a shared slice is only read is no reason
     /// for the compiler to leave out the look at the copy after the call.
     fn lend_input<T>(&self, bytes: &[u8], ask: impl FnOnce(&[u8]) -> T) -> T {
-        let copy = black_box(Places::from(bytes));
+        let mut copy = self.room.take().unwrap_or_default();
+        copy.renew(bytes);
+        let copy = black_box(copy);
         let answer = ask(&copy);
         let copy = black_box(copy);
         self.keep(copy.overrun("the input").or_else(|| first_place("the input", bytes, &copy)));
+        self.room.set(Some(copy));
         answer
     }
 

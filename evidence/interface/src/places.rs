@@ -70,27 +70,38 @@ impl<T: Guard> Places<T> {
     }
 
     /// The element of a zone nearest to the list that no longer holds its guard, before the start or else past the end.
+    #[inline]
     pub fn overrun(&self, name: &str) -> Option<String> {
+        let whole = |zone: &[T]| zone.iter().fold(true, |all, one| all & (*one == T::GUARD));
+        if whole(&self.whole[..ZONE]) && whole(&self.whole[self.end()..]) { None } else { self.told(name) }
+    }
+
+    /// What is told of the zones.
+    #[cold]
+    fn told(&self, name: &str) -> Option<String> {
         let (before, after) = (&self.whole[..ZONE], &self.whole[self.end()..]);
-        if before == [T::GUARD; ZONE] && after == [T::GUARD; ZONE] {
-            return None;
+        if let Some(far) = before.iter().rev().position(|one| *one != T::GUARD) {
+            return Some(format!("{} before the start of {name}: {:?}", far + 1, before[ZONE - 1 - far]));
         }
-        let far = before.iter().rev().position(|one| *one != T::GUARD);
-        let told = far.map(|far| format!("{} before the start of {name}: {:?}", far + 1, before[ZONE - 1 - far]));
-        told.or_else(|| {
-            let far = after.iter().position(|one| *one != T::GUARD)?;
-            Some(format!("{} past the end of {name}, place {}: {:?}", far + 1, self.len() + far, after[far]))
-        })
+        let far = after.iter().position(|one| *one != T::GUARD)?;
+        Some(format!("{} past the end of {name}, place {}: {:?}", far + 1, self.len() + far, after[far]))
+    }
+
+    /// Makes the list anew, with new zones, in the allocation that is there.
+    pub fn renew(&mut self, list: &[T]) {
+        self.whole.clear();
+        self.whole.reserve(list.len() + 2 * ZONE);
+        self.whole.extend_from_slice(&[T::GUARD; ZONE]);
+        self.whole.extend_from_slice(list);
+        self.whole.extend_from_slice(&[T::GUARD; ZONE]);
     }
 }
 
 impl<T: Guard> From<&[T]> for Places<T> {
     fn from(list: &[T]) -> Places<T> {
-        let mut whole = Vec::with_capacity(list.len() + 2 * ZONE);
-        whole.extend_from_slice(&[T::GUARD; ZONE]);
-        whole.extend_from_slice(list);
-        whole.extend_from_slice(&[T::GUARD; ZONE]);
-        Places { whole }
+        let mut places = Places { whole: Vec::with_capacity(list.len() + 2 * ZONE) };
+        places.renew(list);
+        places
     }
 }
 
