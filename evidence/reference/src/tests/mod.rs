@@ -49,7 +49,7 @@ pub fn flow(number: u32, from: u32, to: u32) -> Flow {
 
 /// Lent storage of these lists.
 pub fn lend(tags: Vec<u64>, policies: Vec<u64>, counts: Vec<u8>, flows: Vec<Flow>) -> Lent {
-    Lent { tags, policies, counts, flows }
+    Lent { tags: tags.into(), policies: policies.into(), counts: counts.into(), flows: flows.into() }
 }
 
 /// Storage for n containers with so many places more in each list, all with random content.
