@@ -112,7 +112,7 @@ pub fn find_all(search: Search, list: &[Fault], say: &mut dyn FnMut(String)) -> 
 mod tests {
     use super::*;
     use crate::wrapper::RIGHT;
-    use reference::Reference;
+    use fast::Fast;
     use std::collections::HashSet;
 
     /// The inputs with which the tests look for a difference.
@@ -123,9 +123,9 @@ mod tests {
     #[cfg_attr(debug_assertions, ignore = "takes minutes without optimisation: cargo test --release")]
     fn nothing_wrong_is_not_found() {
         for scope in ALL {
-            let right = Faulty::new(&Reference, RIGHT, *scope, Aim::default());
-            let pool = Pool::new(&Reference, 1);
-            if let Err(difference) = compare_on(&pool, &Reference, &right, INPUTS, 1) {
+            let right = Faulty::new(&Fast, RIGHT, *scope, Aim::default());
+            let pool = Pool::new(&Fast, 1);
+            if let Err(difference) = compare_on(&pool, &Fast, &right, INPUTS, 1) {
                 panic!("{scope:?}: {difference}");
             }
         }
@@ -137,7 +137,7 @@ mod tests {
     fn every_fault_is_found() {
         let list = faults();
         let mut lines = Vec::new();
-        let search = Search { right: &Reference, inputs: INPUTS, seed: 1, both: false };
+        let search = Search { right: &Fast, inputs: INPUTS, seed: 1, both: false };
         let found = find_all(search, &list, &mut |line| lines.push(line));
         lines.retain(|line| line.starts_with("NOT FOUND"));
         assert!(lines.is_empty(), "{}", lines.join("\n"));
@@ -149,12 +149,12 @@ mod tests {
     #[cfg_attr(debug_assertions, ignore = "takes minutes without optimisation: cargo test --release")]
     fn a_fault_on_both_sides_is_found() {
         let list = shared();
-        let search = Search { right: &Reference, inputs: INPUTS, seed: 1, both: true };
+        let search = Search { right: &Fast, inputs: INPUTS, seed: 1, both: true };
         let mut lines = Vec::new();
         assert_eq!(find_all(search, &list, &mut |line| lines.push(line)), list.len(), "{}", lines.join("\n"));
         for fault in list.iter().filter(|fault| fault.name.contains("200 passes") || fault.name.contains("copied again") || fault.name.contains("refreshed")) {
-            let sides = [0, 1].map(|_| Faulty::new(&Reference, fault.hooks, fault.scope, fault.aim));
-            let found = compare_on(&Pool::new(&Reference, 1), &sides[0], &sides[1], INPUTS, 1).expect_err(&fault.name);
+            let sides = [0, 1].map(|_| Faulty::new(&Fast, fault.hooks, fault.scope, fault.aim));
+            let found = compare_on(&Pool::new(&Fast, 1), &sides[0], &sides[1], INPUTS, 1).expect_err(&fault.name);
             assert!(found.first == found.second && found.place.contains("the paper's sentence"), "{}: {found}", fault.name);
         }
     }

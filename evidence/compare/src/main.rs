@@ -4,6 +4,7 @@
 use compare::compare::{compare, compare_case};
 use compare::counts::{case_of, Class};
 use compare::faults::{faults, find_all, shared, Fault, Search};
+use fast::Fast;
 use product::Product;
 use reference::Reference;
 use std::process::ExitCode;
@@ -80,9 +81,9 @@ fn one_case(class: Class, case: u64, seed: u64) -> ExitCode {
     }
 }
 
-/// Looks for each fault over the reference, then for those that both sides have alike, and answers whether all were found.
+/// Looks for each fault over the quick implementation, then for those that both sides have alike, and answers whether all were found.
 fn look_for_faults(inputs: u64, seed: u64, each: bool) -> bool {
-    let search = Search { right: &Reference, inputs, seed, both: false };
+    let search = Search { right: &Fast, inputs, seed, both: false };
     let one_side = look_for(search, &faults(), "faults", each);
     let both_sides = look_for(Search { both: true, ..search }, &shared(), "faults that both sides have alike", each);
     one_side && both_sides

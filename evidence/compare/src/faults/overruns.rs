@@ -143,15 +143,15 @@ mod tests {
     use super::*;
     use crate::compare::compare_on;
     use crate::states::Pool;
-    use reference::Reference;
+    use fast::Fast;
 
     /// What is told names the call, the list, the side and the place; the answers of both are the same.
     #[test]
     fn what_is_told() {
-        let pool = Pool::new(&Reference, 1);
+        let pool = Pool::new(&Fast, 1);
         for fault in aimed() {
-            let wrong = Faulty::new(&Reference, fault.hooks, fault.scope, fault.aim);
-            let found = compare_on(&pool, &Reference, &wrong, 6_000, 1).expect_err(&fault.name);
+            let wrong = Faulty::new(&Fast, fault.hooks, fault.scope, fault.aim);
+            let found = compare_on(&pool, &Fast, &wrong, 6_000, 1).expect_err(&fault.name);
             let side = if fault.aim.place == Some(Place::First) { "1 before the start of" } else { "1 past the end of" };
             let told = format!("the second wrote what it was not lent, {side} {}", WHAT[fault.aim.list]);
             assert!(found.first == found.second && found.place.starts_with(&told), "{}: {found}", fault.name);
