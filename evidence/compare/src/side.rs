@@ -202,14 +202,4 @@ mod tests {
         side.keep(Some(String::from("there")));
         assert_eq!((side.overrun().as_deref(), side.overrun()), (Some("here"), None));
     }
-
-    /// A list of the storage whose zone was written is told after any call that is lent it.
-    #[test]
-    fn storage_is_watched() {
-        let side = Side::new(&Reference);
-        let mut lent = Lent::default();
-        lent.counts.push(0);
-        side.size_of(Header::default(), &lent, 0).unwrap_err();
-        assert_eq!(side.overrun(), None);
-    }
 }
