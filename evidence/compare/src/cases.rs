@@ -2,9 +2,10 @@
 use crate::breaks::{apply, breaks, Break};
 use crate::clauses::{tags, CLAUSES};
 use crate::counts::Class;
+use crate::demand::{beginnings, drawn_list, short_lists};
 use crate::inputs::{Random, MOST_BYTES, SIZES, TABLE};
 use crate::logs::{any_ends, damaged, exact_log, odd_number, put_number, Course, Refused, Steps, Written, DAMAGES, LIMITS, REFUSED, SHAPES};
-use crate::long::{long_replay, overlong_log, LONG_REPLAYS, OVERLONG};
+use crate::long::{long_replay, many_events, overlong_log, LONG_REPLAYS, MANY_EVENTS, OVERLONG};
 use crate::made::{lengthen, made_state};
 use crate::numbers::{numbers, CASES, WIDTHS};
 use crate::pair::{Checked, Pair, Tracker};
@@ -55,7 +56,7 @@ pub fn cases(class: Class, budget: u64) -> u64 {
         Class::Strings => OVER_ALPHABET + 1 + 512,
         Class::Broken => (breaks().len() * STATES) as u64,
         Class::Records => budget * 32 / 100,
-        Class::Logs => budget * 16 / 100,
+        Class::Logs => (budget * 16 / 100).min(1_400),
         Class::Cuts => budget / 150,
         Class::LongLogs => (budget / 5000).max(12),
         Class::Valid => budget * 8 / 100,
@@ -68,6 +69,9 @@ pub fn cases(class: Class, budget: u64) -> u64 {
         Class::Made => budget * 4 / 100,
         Class::Overlong => OVERLONG as u64,
         Class::LongReplays => LONG_REPLAYS as u64,
+        Class::ManyEvents => MANY_EVENTS as u64,
+        Class::Demand => (budget / 34).min(beginnings() as u64),
+        Class::DemandDrawn => (budget / 50).max(60),
     }
 }
 
@@ -94,6 +98,9 @@ pub fn run_case(run: &mut Run, class: Class, case: u64, seed: u64) -> Checked<()
         Class::Made => made(run, random, case as usize),
         Class::Overlong => overlong(run, random, case as usize),
         Class::LongReplays => long_replays(run, random, case as usize),
+        Class::ManyEvents => many(run, random, case as usize),
+        Class::Demand => short_lists(&mut run.pair, random, case as usize),
+        Class::DemandDrawn => drawn_list(&mut run.pair, random, case as usize),
     }
 }
 
@@ -586,6 +593,15 @@ fn long_replays(run: &mut Run, random: &mut Random, case: usize) -> Checked<()> 
     let bytes = long_replay(random, case);
     let mut tracker = Tracker::new(Header::default(), ample_storage(random, 3));
     run.pair.replay(&mut tracker, &bytes).map(drop)
+}
+
+/// A log of as many events as `tally` reads, or nearly so many.
+fn many(run: &mut Run, random: &mut Random, case: usize) -> Checked<()> {
+    run.pair.input();
+    let bytes = many_events(random, case);
+    let mut tracker = Tracker::new(Header::default(), ample_storage(random, 256));
+    run.pair.replay(&mut tracker, &bytes)?;
+    tally_case(run, random, &bytes)
 }
 
 /// One of the calls on a tracker, its arguments mostly right.

@@ -13,7 +13,7 @@ use std::time::Instant;
 const SHARES: u64 = 200;
 
 /// The order in which the classes have their turn: those whose cases take long come last.
-const TURNS: [Class; 17] = [
+const TURNS: [Class; 20] = [
     Class::Numbers,
     Class::Strings,
     Class::Records,
@@ -31,6 +31,9 @@ const TURNS: [Class; 17] = [
     Class::Overlong,
     Class::LongLogs,
     Class::LongReplays,
+    Class::ManyEvents,
+    Class::DemandDrawn,
+    Class::Demand,
 ];
 
 /// The cases of a class that stand in this share; the short lists come to their end early, and those whose cases take long begin later.
@@ -40,6 +43,8 @@ fn cases_of(class: Class, inputs: u64, share: u64) -> Range<u64> {
         Class::Filled => (4, SHARES / 5),
         Class::LongLogs | Class::Overlong => (6, SHARES / 5),
         Class::Wide | Class::LongReplays => (8, SHARES / 5),
+        Class::ManyEvents => (20, SHARES / 5),
+        Class::DemandDrawn => (0, SHARES / 4),
         Class::Strings | Class::Broken => (0, SHARES / 2),
         _ => (0, SHARES),
     };
@@ -60,9 +65,14 @@ pub fn compare(a: &dyn Implementation, b: &dyn Implementation, inputs: u64, seed
 
 /// The same on a pool of valid states that may be used again, whatever was seen.
 pub fn compare_on<'a>(pool: &'a Pool<'a>, a: &'a dyn Implementation, b: &'a dyn Implementation, inputs: u64, seed: u64) -> Result<Counts, Difference> {
+    compare_classes(&TURNS, pool, [a, b], inputs, seed)
+}
+
+/// The same with these classes alone.
+pub fn compare_classes<'a>(classes: &[Class], pool: &'a Pool<'a>, [a, b]: [&'a dyn Implementation; 2], inputs: u64, seed: u64) -> Result<Counts, Difference> {
     let mut run = Run::new(Pair::new(a, b, seed), pool);
     for share in 0..SHARES {
-        for class in TURNS {
+        for class in classes.iter().copied() {
             let begin = Instant::now();
             for case in cases_of(class, inputs, share) {
                 guarded(&mut run, class, case, seed)?;

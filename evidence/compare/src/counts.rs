@@ -115,10 +115,13 @@ pub enum Class {
     Made,
     Overlong,
     LongReplays,
+    ManyEvents,
+    Demand,
+    DemandDrawn,
 }
 
 /// How many classes there are.
-const CLASS_COUNT: usize = 17;
+const CLASS_COUNT: usize = 20;
 
 /// All classes, in the order of the table that is printed.
 pub const CLASSES: [Class; CLASS_COUNT] = [
@@ -139,6 +142,9 @@ pub const CLASSES: [Class; CLASS_COUNT] = [
     Class::Made,
     Class::Overlong,
     Class::LongReplays,
+    Class::ManyEvents,
+    Class::Demand,
+    Class::DemandDrawn,
 ];
 
 impl Class {
@@ -162,6 +168,9 @@ impl Class {
             Class::Made => "made",
             Class::Overlong => "overlong",
             Class::LongReplays => "long-replays",
+            Class::ManyEvents => "many-events",
+            Class::Demand => "demand",
+            Class::DemandDrawn => "demand-drawn",
         }
     }
 }
@@ -199,7 +208,7 @@ const WIDTHS: usize = 68;
 type Demand = (Class, &'static [Call], &'static [u32]);
 
 /// What each class must have seen, so that one that no longer reaches its aim is an error.
-const DEMANDS: [Demand; 37] = [
+const DEMANDS: [Demand; 44] = [
     (Class::Numbers, &[Call::Decode], &[0, 1, 2]),
     (Class::Numbers, &[Call::Encode, Call::WriteHead], &[0, 10]),
     (Class::Numbers, &[Call::ReadHead], &[0, 1, 2]),
@@ -237,6 +246,13 @@ const DEMANDS: [Demand; 37] = [
     (Class::Overlong, &[Call::Text, Call::Tally], &[10]),
     (Class::Overlong, &[Call::Replay], &[2, 3, 4, 9]),
     (Class::LongReplays, &[Call::Replay], &[0, 1, 3, 8]),
+    (Class::ManyEvents, &[Call::Replay, Call::Text], &[0, 1, 3, 8]),
+    (Class::Demand, &[Call::Enable], &[0, 4, 5, 6]),
+    (Class::Demand, &[Call::Disable], &[0, 8]),
+    (Class::Demand, &[Call::AddPolicy], &[0, 4]),
+    (Class::DemandDrawn, &[Call::Enable], &[0, 4, 5, 6, 7]),
+    (Class::DemandDrawn, &[Call::AddPolicy], &[0, 4, 11]),
+    (Class::DemandDrawn, &[Call::Disable, Call::Replay], &[0, 8]),
 ];
 
 impl Counts {

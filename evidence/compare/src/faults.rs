@@ -6,6 +6,7 @@ use interface::Implementation;
 
 mod bytes;
 mod clauses;
+mod demand;
 mod events;
 mod overruns;
 pub mod programs;
@@ -59,9 +60,16 @@ pub fn faults() -> Vec<Fault> {
     list
 }
 
-/// The faults that are given to both sides alike, so that only the paper's own sentence and rules can find them.
+/// The faults that are given to both sides alike, so that only the paper's own sentence, its rules and demand 3 can find
+/// them.
 pub fn shared() -> Vec<Fault> {
-    events::about_sets().into_iter().flat_map(of_written).filter(|fault| fault.scope != Scope::Tally).collect()
+    let about_sets = events::about_sets().into_iter().flat_map(of_written).filter(|fault| fault.scope != Scope::Tally);
+    about_sets.chain(about_joining()).collect()
+}
+
+/// Those of them that only demand 3 can find.
+fn about_joining() -> impl Iterator<Item = Fault> {
+    demand::written().into_iter().flat_map(of_written)
 }
 
 /// What the search for faults is given: the right implementation, the inputs that are drawn, the seed, and whether both sides get the fault.
@@ -111,6 +119,8 @@ pub fn find_all(search: Search, list: &[Fault], say: &mut dyn FnMut(String)) -> 
 #[cfg(test)]
 mod tests {
     use super::*;
+    use crate::compare::compare_classes;
+    use crate::counts::Class;
     use crate::wrapper::RIGHT;
     use fast::Fast;
     use std::collections::HashSet;
@@ -156,6 +166,41 @@ mod tests {
             let sides = [0, 1].map(|_| Faulty::new(&Fast, fault.hooks, fault.scope, fault.aim));
             let found = compare_on(&Pool::new(&Fast, 1), &sides[0], &sides[1], INPUTS, 1).expect_err(&fault.name);
             assert!(found.first == found.second && found.place.contains("the paper's sentence"), "{}: {found}", fault.name);
+        }
+    }
+
+    /// The classes that make calls one by one on valid trackers, without those of demand 3.
+    const ONE_BY_ONE: [Class; 5] = [Class::Valid, Class::Sequences, Class::Filled, Class::Wide, Class::Made];
+
+    /// A call that is wrong about which events join is missed on both sides by the classes before, and found by demand 3.
+    #[test]
+    #[cfg_attr(debug_assertions, ignore = "takes minutes without optimisation: cargo test --release")]
+    fn only_demand_3_finds_what_joins() {
+        let pool = Pool::new(&Fast, 1);
+        for fault in about_joining().filter(|fault| fault.scope == Scope::Calls) {
+            let sides = [0, 1].map(|_| Faulty::new(&Fast, fault.hooks, fault.scope, fault.aim));
+            let compared = |classes: &[Class]| compare_classes(classes, &pool, [&sides[0], &sides[1]], 2_000, 1);
+            if let Err(difference) = compared(&ONE_BY_ONE) {
+                panic!("{} is found without demand 3: {difference}", fault.name);
+            }
+            assert!(compared(&[Class::Demand]).is_err(), "{} is not found", fault.name);
+        }
+    }
+
+    /// A text that is wrong only from 4,096 events on is missed by the other classes of logs, and found by that of many
+    /// events.
+    #[test]
+    #[cfg_attr(debug_assertions, ignore = "takes minutes without optimisation: cargo test --release")]
+    fn only_many_events_find_what_shows_late() {
+        let logs = [Class::Logs, Class::Cuts, Class::LongLogs, Class::Wide, Class::Overlong, Class::LongReplays, Class::DemandDrawn];
+        let pool = Pool::new(&Fast, 1);
+        for fault in texts::many_events().into_iter().flat_map(of_written) {
+            let wrong = Faulty::new(&Fast, fault.hooks, fault.scope, fault.aim);
+            let compared = |classes: &[Class]| compare_classes(classes, &pool, [&Fast, &wrong], 2_000, 1);
+            if let Err(difference) = compared(&logs) {
+                panic!("{} is found without many events: {difference}", fault.name);
+            }
+            assert!(compared(&[Class::ManyEvents]).is_err(), "{} is not found", fault.name);
         }
     }
 

@@ -2,11 +2,13 @@
 // faults/overruns.rs alone writes through a pointer, into places that guard zones stand on.
 #![deny(unsafe_code)]
 
+pub mod against;
 pub mod breaks;
 pub mod cases;
 pub mod clauses;
 pub mod compare;
 pub mod counts;
+pub mod demand;
 pub mod difference;
 pub mod faults;
 pub mod inputs;

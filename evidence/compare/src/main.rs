@@ -1,9 +1,10 @@
 //! The program `compare`: the two implementations on many inputs, or one implementation against wrong ones made from it.
 #![forbid(unsafe_code)]
 
-use compare::compare::{compare, compare_case};
+use compare::compare::{compare, compare_case, compare_on};
 use compare::counts::{case_of, Class};
 use compare::faults::{faults, find_all, shared, Fault, Search};
+use compare::states::Pool;
 use fast::Fast;
 use product::Product;
 use reference::Reference;
@@ -18,9 +19,11 @@ struct Asked {
 }
 
 /// The inputs that are drawn if no number is given: with the lists that are always run and the search for faults, a run of ten to fifteen seconds.
-const INPUTS: u64 = 30_000;
+const INPUTS: u64 = 16_000;
 /// The inputs that are drawn in the search for each fault if no number is given.
 const FAULT_INPUTS: u64 = 6_000;
+/// The inputs that are drawn when the two Rust implementations are compared with each other.
+const FAST_INPUTS: u64 = 1_000;
 /// The seed if none is given.
 const SEED: u64 = 1;
 
@@ -49,7 +52,8 @@ fn asked(words: &[String]) -> Option<Asked> {
     Some(asked)
 }
 
-/// Compares with the inputs asked for, then looks for all faults with fewer, so that a run shows that it could have failed.
+/// Compares with the inputs asked for, then the quick implementation with the plain one, and looks for all faults with fewer,
+/// so that a run shows that it could have failed.
 fn whole_run(asked: &Asked) -> ExitCode {
     let counts = match compare(&Reference, &Product, asked.inputs, asked.seed) {
         Ok(counts) => counts,
@@ -59,6 +63,11 @@ fn whole_run(asked: &Asked) -> ExitCode {
         }
     };
     println!("{}", counts.tables());
+    if let Err(difference) = compare_on(&Pool::new(&Fast, asked.seed), &Reference, &Fast, FAST_INPUTS, asked.seed) {
+        println!("first is reference, second is fast\n{difference}");
+        return ExitCode::FAILURE;
+    }
+    println!("no difference between reference and fast");
     let all_found = look_for_faults(FAULT_INPUTS, asked.seed, false);
     if !all_found {
         return ExitCode::FAILURE;

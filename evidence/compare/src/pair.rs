@@ -125,6 +125,22 @@ impl<'a> Pair<'a> {
         self.counts.inputs[self.case.0 as usize] += 1;
     }
 
+    /// Both implementations, for a call that is made now and held against the paper alone.
+    pub fn both(&self, call: Call) -> [&Side<'a>; 2] {
+        self.call.set(Some(call));
+        [&self.first, &self.second]
+    }
+
+    /// Fails where one of the two goes against the paper, whatever the other shows; counts the answer otherwise.
+    pub fn hold<T: Debug>(&mut self, call: Call, number: u32, shown: [&T; 2], place: Option<String>, arguments: &dyn Fn() -> String) -> Checked<()> {
+        self.call.set(None);
+        if let Some(place) = self.overrun().or(place) {
+            return Err(self.account(call, arguments(), shown.map(|one| format!("{one:?}")), place));
+        }
+        self.counts.note(self.case.0, call, number);
+        Ok(())
+    }
+
     /// The account of a difference in the present case.
     fn account(&self, call: Call, arguments: String, answers: [String; 2], place: String) -> Difference {
         let [first, second] = answers;

@@ -1,13 +1,13 @@
-//! The program `bench`: product and reference side by side on the same calls, in turns, and how the cost grows.
+//! The program `bench`: product and the quick implementation in Rust side by side on the same calls, in turns, and how the cost grows.
 #![forbid(unsafe_code)]
 
 use compare::inputs::{Random, MOST_BYTES, TABLE};
 use compare::logs::{any_ends, Written};
 use compare::states::{right_policy, State};
 use compare::wrapper::ample;
+use fast::Fast;
 use interface::{Event, Flow, Header, Implementation, Lent};
 use product::Product;
-use reference::Reference;
 use std::hint::black_box;
 use std::process::ExitCode;
 use std::time::{Duration, Instant};
@@ -127,11 +127,11 @@ fn turn(one: &dyn Implementation, work: &Work, out: &mut [u8]) -> f64 {
 fn alike(work: &Work) -> bool {
     let (mut one, mut two) = (prepared(work), prepared(work));
     let mut outs = [vec![0; 300_000], vec![0; 300_000]];
-    let sums = [perform(&Product, work, &mut one, &mut outs[0]), perform(&Reference, work, &mut two, &mut outs[1])];
+    let sums = [perform(&Product, work, &mut one, &mut outs[0]), perform(&Fast, work, &mut two, &mut outs[1])];
     sums[0] == sums[1] && one == two && outs[0] == outs[1]
 }
 
-/// The best turns of product and reference, in nanoseconds for each call; nothing where their answers differ.
+/// The best turns of both, in nanoseconds for each call; nothing where their answers differ.
 fn measured(case: &Case) -> Option<[f64; 2]> {
     if !alike(&case.work) {
         return None;
@@ -140,7 +140,7 @@ fn measured(case: &Case) -> Option<[f64; 2]> {
     let mut best = [f64::MAX; 2];
     for round in 0..ROUNDS {
         for who in [round % 2, 1 - round % 2] {
-            let one: &dyn Implementation = if who == 0 { &Product } else { &Reference };
+            let one: &dyn Implementation = if who == 0 { &Product } else { &Fast };
             best[who] = best[who].min(turn(one, &case.work, &mut out));
         }
     }
@@ -150,14 +150,14 @@ fn measured(case: &Case) -> Option<[f64; 2]> {
 /// A tracker that has just been started.
 fn started(n: u32) -> State {
     let mut lent = ample();
-    let header = Reference.start(n, &mut lent).header;
+    let header = Fast.start(n, &mut lent).header;
     State { header, lent }
 }
 
 /// A tracker after these events.
 fn after(n: u32, events: &[Event]) -> State {
     let mut lent = ample();
-    let header = Reference.replay(&Written::new(n, events).bytes, &mut lent).header;
+    let header = Fast.replay(&Written::new(n, events).bytes, &mut lent).header;
     State { header, lent }
 }
 
@@ -210,7 +210,7 @@ fn all_policies(state: &State) -> Vec<(u32, [u64; 4])> {
 fn full() -> State {
     let mut state = after(256, &enables(random_ends(256, TABLE)));
     for (container, set) in all_policies(&state) {
-        Reference.add_policy(state.header, &mut state.lent, container, set);
+        Fast.add_policy(state.header, &mut state.lent, container, set);
     }
     state
 }
@@ -293,8 +293,8 @@ fn row(case: &Case, before: Option<[f64; 2]>) -> Option<([f64; 2], f64)> {
 /// Prints a table, and puts the greatest ratio and its case in place of a smaller one; answers whether all answers were alike.
 fn table(heading: &str, cases: &[Case], growth: bool, greatest: &mut (f64, String)) -> bool {
     println!("{heading}");
-    let more = if growth { format!("{:>10}{:>10}", "product x", "ref. x") } else { String::new() };
-    println!("{:<38}{:>7}{:>14}{:>14}{:>9}{more}", "case", "calls", "product ns", "reference ns", "ratio");
+    let more = if growth { format!("{:>10}{:>10}", "product x", "fast x") } else { String::new() };
+    println!("{:<38}{:>7}{:>14}{:>14}{:>9}{more}", "case", "calls", "product ns", "fast ns", "ratio");
     let (mut all_alike, mut before) = (true, None);
     for case in cases {
         match row(case, before) {

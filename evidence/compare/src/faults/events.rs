@@ -147,7 +147,7 @@ fn adding() -> Vec<Written> {
 }
 
 /// An answer without gain.
-fn answer(refusal: u32, header: Header) -> Answer {
+pub fn answer(refusal: u32, header: Header) -> Answer {
     Answer { refusal, gain: 0, header }
 }
 
@@ -168,7 +168,7 @@ fn refused(mut answer: Answer, change: impl Fn(&mut Answer)) -> Answer {
 }
 
 /// The answer without this refusal.
-fn forgiven(mut answer: Answer, refusal: u32) -> Answer {
+pub fn forgiven(mut answer: Answer, refusal: u32) -> Answer {
     if answer.refusal == refusal {
         answer.refusal = 0;
     }
@@ -481,7 +481,7 @@ fn to_the_front(f: &Faulty, header: Header, lent: &mut Lent, flow: Flow) -> Answ
 }
 
 /// Drops every flow with the ends of the one that is disabled.
-fn drops_alike(f: &Faulty, header: Header, lent: &mut Lent, number: u32) -> Answer {
+pub fn drops_alike(f: &Faulty, header: Header, lent: &mut Lent, number: u32) -> Answer {
     let ends = lent.flows.iter().find(|flow| flow.number == number).copied().unwrap_or_default();
     let mut given = f.right.disable(header, lent, number);
     while given.refusal == 0 {
@@ -539,7 +539,7 @@ fn last_moved(f: &Faulty, header: Header, lent: &mut Lent, number: u32) -> Answe
 }
 
 /// The greatest becomes that of the flows still enabled.
-fn greatest_falls(f: &Faulty, header: Header, lent: &mut Lent, number: u32) -> Answer {
+pub fn greatest_falls(f: &Faulty, header: Header, lent: &mut Lent, number: u32) -> Answer {
     let given = f.right.disable(header, lent, number);
     changed(given, |given| {
         let used = &lent.flows[..given.header.count as usize];
@@ -548,7 +548,7 @@ fn greatest_falls(f: &Faulty, header: Header, lent: &mut Lent, number: u32) -> A
 }
 
 /// Does not find the record at one place.
-fn missed(f: &Faulty, header: Header, lent: &mut Lent, number: u32, place: u32) -> Answer {
+pub fn missed(f: &Faulty, header: Header, lent: &mut Lent, number: u32, place: u32) -> Answer {
     let here = place < header.count && lent.flows.get(place as usize).is_some_and(|flow| flow.number == number);
     if !here {
         return f.right.disable(header, lent, number);

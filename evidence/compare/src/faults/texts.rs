@@ -2,10 +2,11 @@
 use super::{Written, TALLY};
 use crate::inputs::MOST_BYTES;
 use crate::wrapper::{ample, tally_by_text, text_by_calls, Faulty, Hooks, RIGHT};
+use interface::{Lent, Replayed};
 
 /// The faults of this file.
 pub fn written() -> Vec<Written> {
-    [lines(), limits()].concat()
+    [lines(), limits(), many_events()].concat()
 }
 
 /// Faults of the lines.
@@ -47,6 +48,41 @@ fn limits() -> Vec<Written> {
         ("text is written before refusal 10", TALLY, Hooks { tally: written_before, ..RIGHT }),
         ("the place after the text is cleared", TALLY, Hooks { tally: cleared_after, ..RIGHT }),
     ]
+}
+
+/// Faults that show from 4,096 events on.
+pub fn many_events() -> Vec<Written> {
+    vec![
+        ("the events are told modulo 4,096", TALLY, Hooks { text: |f, b| counted(f, b, |run| run.events %= 4_096), ..RIGHT }),
+        ("the text is that of the first 4,096 events", TALLY, Hooks { replay: |f, b, l| first_events(f, b, l, false), ..RIGHT }),
+        ("no gain is counted from 4,096 events on", TALLY, Hooks { replay: |f, b, l| first_events(f, b, l, true), ..RIGHT }),
+    ]
+}
+
+/// The right text, its events and gain told after a change.
+fn counted(f: &Faulty, bytes: &[u8], change: impl Fn(&mut Replayed)) -> String {
+    let (lines, last) = parts(f, bytes);
+    let mut run = f.right.replay(bytes, &mut ample());
+    change(&mut run);
+    if last.starts_with("refused") { joined(lines, &last) } else { joined(lines, &format!("events {} gain {}", run.events, run.gain)) }
+}
+
+/// A replay of the first 4,096 events; or of all, with the gain of those first ones.
+fn first_events(f: &Faulty, bytes: &[u8], lent: &mut Lent, all: bool) -> Replayed {
+    let first = f.right.replay(&bytes[..beginning(f, bytes, 4_096)], lent);
+    if all { Replayed { gain: first.gain, ..f.right.replay(bytes, lent) } } else { first }
+}
+
+/// The bytes of n and of the first so many records, or all.
+fn beginning(f: &Faulty, bytes: &[u8], records: usize) -> usize {
+    let Ok((_, mut at)) = f.right.read_head(bytes) else { return bytes.len() };
+    for _ in 0..records {
+        match f.right.read_record(bytes, at) {
+            Ok((_, end)) => at = end,
+            Err(_) => return bytes.len(),
+        }
+    }
+    at
 }
 
 /// The line of an input that is too long.
