@@ -56,7 +56,7 @@ pub fn cases(class: Class, budget: u64) -> u64 {
         Class::Strings => OVER_ALPHABET + 1 + 512,
         Class::Broken => (breaks().len() * STATES) as u64,
         Class::Records => budget * 32 / 100,
-        Class::Logs => (budget * 16 / 100).min(1_400),
+        Class::Logs => (budget * 16 / 100).min(1_400 + budget / 20),
         Class::Cuts => budget / 150,
         Class::LongLogs => (budget / 5000).max(12),
         Class::Valid => budget * 8 / 100,

@@ -18,8 +18,9 @@ struct Asked {
     case: Option<(Class, u64)>,
 }
 
-/// The inputs that are drawn if no number is given: with the lists that are always run and the search for faults, a run of ten to fifteen seconds.
-const INPUTS: u64 = 16_000;
+/// The inputs that are drawn if no number is given: with the lists that are always run and the search for faults, a run of some
+/// forty seconds.
+const INPUTS: u64 = 30_000;
 /// The inputs that are drawn in the search for each fault if no number is given.
 const FAULT_INPUTS: u64 = 6_000;
 /// The inputs that are drawn when the two Rust implementations are compared with each other.
