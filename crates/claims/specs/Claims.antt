@@ -15,7 +15,8 @@
 --     replay-is-starting-and-calls, a-text-that-fits-is-written
 --   refused: refused-start-changes-nothing, refused-call-changes-nothing, a-refused-question-tells-nothing, refused-rank-changes-nothing,
 --     a-refused-n-changes-nothing, a-short-output-keeps-its-bytes
---   of the calls that run: what-start-does, what-enable-does, what-disable-does, what-add-policy-does, what-replay-does,
+--   of the calls that run: what-is-true-of-a-definition-is-true-of-the-call, what-start-does, what-enable-does,
+--     what-disable-does, what-add-policy-does, what-replay-does,
 --     what-tally-writes, what-tally-leaves; that these speak of the contracts: start-contract, enable-contract,
 --     disable-contract, add-policy-contract, tags-of-contract, size-of-contract, is-legal-contract, rank-contract,
 --     replay-contract, tally-contract
@@ -90,7 +91,8 @@
 -- 'Adding a set, once it runs, may stand among them; it is no event': a-call-is-an-add, adding-is-no-event, add-changes-no-set, add-gains-nothing
 -- 'A run over a log whose n and storage are accepted counts, once it runs, as such a starting and the calls of its events': replay-is-starting-and-calls,
 --   the-events-done-are-those-that-join; of those that run a-replay-counts-as-calls, a-tally-counts-as-calls, and that
---   there are such: every-replay-can-be-made, every-tally-can-be-made, every-replay-begins-calls, every-tally-begins-calls
+--   there are such: every-replay-can-be-made, every-tally-can-be-made, every-replay-begins-calls,
+--   every-tally-begins-calls; of questions every-question-can-be-asked, every-ranking-can-be-asked-for
 -- 'The accepted history of the list is found from n and the calls' arguments alone': history, each-call-asks-for-its-event
 -- 'It is empty at first, with nothing open and greatest number 0': `accepted`, `enabled`, `greatest` (model/specs/Model.antt)
 -- 'An event joins it exactly if none of the refusals applies that stand after 9 and 12 in its order': enable-joins-exactly-if, disable-joins-exactly-if
@@ -287,10 +289,11 @@
 --   exported-is-legal-contract, exported-rank-contract, exported-replay-contract, exported-decode-contract,
 --   exported-encode-contract, exported-read-head-contract, exported-write-head-contract, exported-read-record-contract,
 --   exported-write-enable-contract, exported-write-disable-contract, exported-enable-len-contract,
---   exported-disable-len-contract, exported-tally-text-contract. The words of these and of the contracts above: lists, given,
---   Ensures
+--   exported-disable-len-contract, exported-tally-text-contract; a list of exported calls is one of calls:
+--   an-exported-start-counts-as-one, an-exported-call-counts-as-one. The words of these and of the contracts above:
+--   lists, given, Ensures
 use mathlib.Core.Path.{_≡_, refl, sym, ap, _∙_, subst}
-use mathlib.Core.Bool.{true, false}
+use mathlib.Core.Bool.{Bool, true, false}
 use mathlib.Core.List.{List, [], _∷_, _++_, map}
 use mathlib.Core.Logic.{_⊎_, _↔_, _≢_, ⊎-elim}
 use mathlib.Mathlib.Logic.Relation.{ReflTransGenᴰ}
@@ -337,7 +340,7 @@ use Rattle.calls.specs.declared.Answered.{Answered}
 use Rattle.calls.specs.Replies.{answerOf, answer-injective}
 use Rattle.calls.specs.Unjudged.{applyEnableOf, applyDisableOf}
 use Rattle.calls.specs.UnjudgedLaws.{passes-propagate, passes-gain, apply-enable-refusal, apply-enable-refused, apply-disable-refusal, apply-disable-refused, apply-enable, apply-disable}
-use Rattle.claims.specs.Running.{leaving, StartGave, CallGave, TagsGave, LegalGave, running, ReplayGave, withNewTable, TallyAnswered, TallyWrote, TallyLeft, StartDoes, start-does, EnableDoes, enable-does, DisableDoes, disable-does, AddDoes, add-does, Called, called-is, called-of, called-on, replay-left, tally-left, replay-as-calls, tally-as-calls, replay-begins, tally-begins}
+use Rattle.claims.specs.Running.{leaving, StartGave, CallGave, TagsGave, SizeGave, LegalGave, RankGave, RankWrote, running, ReplayGave, withNewTable, TallyAnswered, TallyWrote, TallyLeft, StartDoes, start-does, EnableDoes, enable-does, DisableDoes, disable-does, AddDoes, add-does, Called, called-is, called-of, called-on, tags-given, size-given, legal-given, rank-given, replay-left, tally-left, replay-as-calls, tally-as-calls, replay-begins, tally-begins}
 use Rattle.outcome.specs.Outcome.{Outcome, startOrder, enableLater, disableLater, startOf, propagated, gainOf, enableOf, disableOf, addOf, Call, ask, add, orderOf, outcomeOf, eventsOf, after, configurationOf}
 use Rattle.outcome.specs.Refusals.{start-refusal, start-refused, call-refusal, call-refused}
 use Rattle.outcome.specs.Table.{StartAnswers, start-answers, EnableAnswers, enable-answers, DisableAnswers, disable-answers, AddAnswers, add-answers}
@@ -354,7 +357,7 @@ use Rattle.question.specs.Question.{Asked, questionOrder, tagsOf, sizeAsked, po
 use Rattle.question.specs.Replies.{told, tagsReply, sizeReply, legalReply, tags-injective, size-injective, legal-injective}
 use Rattle.question.specs.Laws.{asked-number, QuestionAnswers, question-answers, tags-told, size-told, legal-told, tags-untold, size-untold, legal-untold, legal-exactly-if, no-policy-not-legal, policy-member}
 use Rattle.ranking.specs.declared.Ranked.{Ranked}
-use Rattle.ranking.specs.Ranking.{ranksBefore, rankingOf, SortedBy, rankOf, rankInto}
+use Rattle.ranking.specs.Ranking.{ranksBefore, rankingOf, SortedBy, Ranking, rankOf, rankInto}
 use Rattle.ranking.specs.Replies.{rankedReply, ranked-injective}
 use Rattle.ranking.specs.Laws.{ranks-before-iff, ranking-length, ranking-members, ranking-sorted, ranking-once, ranking-unique, RankAnswers, rank-answers, rank-refused, rank-done, rank-into-done, rank-into-none}
 use Rattle.replay.specs.declared.Containers.{Containers}
@@ -386,7 +389,8 @@ use Rattle.claims.specs.Permission.{takes, givenTo, SameSets, Known, tak
 -- SomeField, IsUnknown (eventlog/specs/Refusals.antt); IsEvent, IsRecord, IsLog, complete (Laws.antt, LogLaws.antt), AreEvents (Records.antt);
 -- ContainersAnswers, AllAccepted, gainsOf, Completes, Stops, Replays (replay/specs/Laws.antt); joining, doneOf (Joins.antt); lineWith, IsLine
 -- (tallytext/specs/Words.antt, Laws.antt); takes, givenTo, SameSets, Known (Permission.antt); leaving, running, StartGave,
--- CallGave, TagsGave, LegalGave, ReplayGave, withNewTable, TallyAnswered, TallyWrote, TallyLeft (what the contracts say),
+-- CallGave, TagsGave, SizeGave, LegalGave, RankGave, RankWrote, ReplayGave, withNewTable, TallyAnswered, TallyWrote,
+-- TallyLeft (what the contracts say),
 -- StartDoes, EventDoes, EnableDoes, DisableDoes, AddDoes, Called (Running.antt); lentFront, frontOf, outcomeBeyond, replayBeyond (front/specs/Front.antt); Standing, Accepted, Occurs, MayEnable,
 -- Within (model/specs/Standing.antt, Histories.antt, Closure.antt).
 
@@ -940,14 +944,41 @@ the-tags-printed-are-flows bs lent are b c t l =
 pub the-events-printed-are-those-done : (bs : List ℕ) (lent : Storage) → IsBytes bs → containersIn bs lent .refusal ≡ 0 → replayOf bs lent .events ≡ length (doneOf bs)
 the-events-printed-are-those-done bs lent are b = replay-does bs lent are b .events ∙ ap length (replay-done bs lent are b)
 
--- THE RUNNING CALLS (tracker/src/lib.rt). The contract of each says that what the call gives back and leaves in the lent
--- lists (`leaving`) makes up the outcome of its definition, for every number and every content and length of storage. That
--- is the hypothesis here (`StartGave`, `CallGave` and their like, Running.antt), and Tie.antt says that it is the whole
--- contract, which requires nothing. So what is claimed above of the definitions is true of the calls, one by one:
+-- THE RUNNING CALLS (tracker/src/lib.rt). The contract of each says that what the call gives back and leaves in the
+-- lent lists (`leaving`) makes up the outcome of its definition, for every number and every content and length of
+-- storage. That is the hypothesis here (`StartGave`, `CallGave` and their like, Running.antt), and Tie.antt says that
+-- it is the whole contract, which requires nothing. So what is claimed above of the definitions is true of the calls,
+-- one by one. (`IsBytes`, of a log: each number is below 256, as those of a `&[u8]` are.)
 
 -- the numbers that a contract gives determine the reply
 pub the-numbers-tell-replies-apart : (q r : Reply) → answerOf q ≡ answerOf r → q ≡ r
 the-numbers-tell-replies-apart = answer-injective
+
+-- whatever is true of the outcome, the answer, the ranking or the run of a definition is true of what the call gave
+pub what-is-true-of-a-definition-is-true-of-the-call :
+    ((n : ℕ) (lent : Storage) (r : Answered) (left : Storage) → StartGave n lent r left
+    → (P : Outcome → Type 0) → P (startOf n lent) → P (leaving r left))
+    × ((s : State) (c : Call) (r : Answered) (left : Storage) → CallGave s c r left
+    → (P : Outcome → Type 0) → P (outcomeOf s c) → P (leaving r left))
+    × ((s : State) (c : ℕ) (r : Tags) → TagsGave s c r
+    → (P : Asked TagSet → Type 0) → P (tagsOf s c) → P (tagsReply r))
+    × ((s : State) (c : ℕ) (r : Size) → SizeGave s c r
+    → (P : Asked ℕ → Type 0) → P (sizeAsked s c) → P (sizeReply r))
+    × ((s : State) (c : ℕ) (r : Legal) → LegalGave s c r
+    → (P : Asked Bool → Type 0) → P (legalOf s c) → P (legalReply r))
+    × ((s : State) (out : List ℕ) (r : Ranked) (written : List ℕ) → RankGave s out r → RankWrote s out written
+    → (P : Ranking → Type 0) → P (rankOf s out) → P (record { refusal = rankedReply r; output = written }))
+    × ((bs : List ℕ) (lent : Storage) (r : Replayed) (left : Storage) → ReplayGave bs lent r left
+    → (P : Replay → Type 0) → P (replayOf bs lent) → P (running r left))
+what-is-true-of-a-definition-is-true-of-the-call = (
+  λ n lent r left e P. subst P (sym e),
+  λ s c r left e P. subst P (sym e),
+  λ s c r e P. subst P (sym e),
+  λ s c r e P. subst P (sym e),
+  λ s c r e P. subst P (sym e),
+  λ s out r written e f P. subst P (λ i. record { refusal = sym e i; output = sym f i }),
+  λ bs lent r left e P. subst P (sym e),
+)
 
 -- `start`: StartDoes gathers what is claimed of it (demand 1)
 pub what-start-does : (n : ℕ) (lent : Storage) (r : Answered) (left : Storage) → StartGave n lent r left → StartDoes n lent (leaving r left)
@@ -1084,6 +1115,13 @@ pub calls-can-go-on : (n : ℕ) (lent : Storage) (done : List Call) (s : State) 
     → (calls : List Call) → (t : State) × Called n lent (done ++ calls) t
 calls-can-go-on = called-on
 
+pub every-question-can-be-asked : (s : State) (c : ℕ)
+    → ((r : Tags) × TagsGave s c r) × ((r : Size) × SizeGave s c r) × ((r : Legal) × LegalGave s c r)
+every-question-can-be-asked s c = (tags-given s c, size-given s c, legal-given s c)
+
+pub every-ranking-can-be-asked-for : (s : State) (out : List ℕ) → (r : Ranked) × RankGave s out r
+every-ranking-can-be-asked-for = rank-given
+
 pub every-replay-can-be-made : (bs : List ℕ) (lent : Storage) → IsBytes bs → (r : Replayed) × ReplayGave bs lent r (replayOf bs lent .state .storage)
 every-replay-can-be-made = replay-left
 
@@ -1108,13 +1146,17 @@ pub a-tally-counts-as-calls : (bs lentTags lentPolicies lentCounts : List ℕ)
 a-tally-counts-as-calls = tally-as-calls
 
 pub every-replay-begins-calls : (bs : List ℕ) (lent : Storage) → IsBytes bs → containersIn bs lent .refusal ≡ 0
-    → (s : State) × Called (headAt bs .value) lent (map callOf (doneOf bs)) s
+    → (r : Replayed) × (left : Storage) × ReplayGave bs lent r left
+    × Called (headAt bs .value) lent (map callOf (doneOf bs)) (running r left .state)
 every-replay-begins-calls = replay-begins
 
 pub every-tally-begins-calls : (bs tags policies counts : List ℕ)
     → (let lent = withNewTable tags policies counts in
+    let x = leftOf bs lent .storage in
     IsBytes bs → containersIn bs lent .refusal ≡ 0 → length bs ≤ 16384
-    → (s : State) × Called (headAt bs .value) lent (map callOf (doneOf bs)) s)
+    → (r : Tallied) × TallyLeft bs lent r (x .tags) (x .policies) (x .policyCounts)
+    × Called (headAt bs .value) lent (map callOf (doneOf bs))
+    (stateOf (r .header) (x .tags) (x .policies) (x .policyCounts) (r .flows)))
 every-tally-begins-calls = tally-begins
 
 -- DEMANDS 2 AND 3 of calls made one after the other, which left the state `s`; they may be those of a replay, or of a
@@ -1142,23 +1184,47 @@ module _ (n : ℕ) (lent : Storage) (calls : List Call) (s : State) (made : Call
   pub called-policy-sets-are-those-given : (c : ℕ) → c < n → SameSets (policiesOf s c) (givenTo n c [] calls)
   called-policy-sets-are-those-given = rw (sym same-state) (policies-are-those-given n lent (called-is made .0) calls)
 
-  -- what `tags_of` then tells is Flows, no question about a container below n is refused, and the ranking is written
+  -- no question about a container below n is then refused, what `tags_of` tells is Flows, and the ranking is written
+  answered : (c : ℕ) → c < n → (tagsOf s c .refusal ≡ 0) × (sizeAsked s c .refusal ≡ 0) × (legalOf s c .refusal ≡ 0)
+  answered = rw (sym same-state) (questions-are-answered n lent (called-is made .0) calls)
+
+  pub called-every-question-is-answered : (c : ℕ) → c < n
+      → ((r : Tags) → TagsGave s c r → tagsReply r .refusal ≡ 0)
+      × ((r : Size) → SizeGave s c r → sizeReply r .refusal ≡ 0)
+      × ((r : Legal) → LegalGave s c r → legalReply r .refusal ≡ 0)
+  called-every-question-is-answered c l =
+      let a = answered c l in (
+        λ r e. ap (λ (x : Asked TagSet). x .refusal) e ∙ a .0,
+        λ r e. ap (λ (x : Asked ℕ). x .refusal) e ∙ a .1,
+        λ r e. ap (λ (x : Asked Bool). x .refusal) e ∙ a .2,
+      )
+
   pub called-tags-are-flows : (c t : ℕ) → c < n → (r : Tags) → TagsGave s c r → (has (r .set) t ≡ true) ↔ Flows n (accepted n (eventsOf calls)) t c
   called-tags-are-flows c t l r e =
-      let told : r .set ≡ setAt (s .storage .tags) c = ap (λ (x : Asked TagSet). x .value) e ∙ tags-told s c (answered .0) in
+      let told : r .set ≡ setAt (s .storage .tags) c =
+      ap (λ (x : Asked TagSet). x .value) e ∙ tags-told s c (answered c l .0) in
       rw told (called-sets-are-flows c t l)
-    where
-      answered : (tagsOf s c .refusal ≡ 0) × (sizeAsked s c .refusal ≡ 0) × (legalOf s c .refusal ≡ 0)
-      answered = subst (λ (s : State). (tagsOf s c .refusal ≡ 0) × (sizeAsked s c .refusal ≡ 0) × (legalOf s c .refusal ≡ 0)) same-state (questions-are-answered n lent (called-is made .0) calls c l)
 
-  pub called-every-question-is-answered : (c : ℕ) → c < n → (tagsOf s c .refusal ≡ 0) × (sizeAsked s c .refusal ≡ 0) × (legalOf s c .refusal ≡ 0)
-  called-every-question-is-answered = rw (sym same-state) (questions-are-answered n lent (called-is made .0) calls)
+  pub called-no-other-container-is-told : (c : ℕ) → n ≤ c
+      → ((r : Tags) → TagsGave s c r → tagsReply r .refusal ≡ 4)
+      × ((r : Size) → SizeGave s c r → sizeReply r .refusal ≡ 4)
+      × ((r : Legal) → LegalGave s c r → legalReply r .refusal ≡ 4)
+  called-no-other-container-is-told c l =
+      let a : (tagsOf s c .refusal ≡ 4) × (sizeAsked s c .refusal ≡ 4) × (legalOf s c .refusal ≡ 4) =
+      rw (sym same-state) (others-are-no-container n lent (called-is made .0) calls c l) in (
+        λ r e. ap (λ (x : Asked TagSet). x .refusal) e ∙ a .0,
+        λ r e. ap (λ (x : Asked ℕ). x .refusal) e ∙ a .1,
+        λ r e. ap (λ (x : Asked Bool). x .refusal) e ∙ a .2,
+      )
 
-  pub called-no-other-container-is-told : (c : ℕ) → n ≤ c → (tagsOf s c .refusal ≡ 4) × (sizeAsked s c .refusal ≡ 4) × (legalOf s c .refusal ≡ 4)
-  called-no-other-container-is-told = rw (sym same-state) (others-are-no-container n lent (called-is made .0) calls)
-
-  pub called-the-ranking-is-written : (out : List ℕ) → n ≤ length out → rankOf s out .refusal ≡ 0
-  called-the-ranking-is-written = rw (sym same-state) (rank-is-answered n lent (called-is made .0) calls)
+  pub called-the-ranking-is-written : (out : List ℕ) → n ≤ length out
+      → ((r : Ranked) → RankGave s out r → rankedReply r ≡ 0)
+      × ((written : List ℕ) → RankWrote s out written → written ≡ rankingOf n (s .storage .tags) ++ drop n out)
+  called-the-ranking-is-written out l =
+      let a : rankOf s out .refusal ≡ 0 =
+      rw (sym same-state) (rank-is-answered n lent (called-is made .0) calls out l) in
+      let all = ap (λ (m : ℕ). rankingOf m (s .storage .tags) ++ drop m out) (called-follows .size) in
+      (λ r e. e ∙ a, λ written e. e ∙ rank-done s out a ∙ all)
 
   -- the next policy set is accepted exactly if the container takes it
   pub called-add-accepted-exactly-if-taken : (c : ℕ) (p : TagSet) (r : Answered) (left : Storage) → CallGave s (add c p) r left

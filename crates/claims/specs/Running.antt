@@ -1,16 +1,19 @@
 -- The running calls. A call's contract (tracker/src/lib.rt) says that what it gives back and leaves makes up the outcome of its definition; so all that is
 -- claimed of the outcome is true of the call. Gathered here for each call, and for calls one after the other. Assumes nothing.
 use mathlib.Core.Path.{_≡_, refl, sym, ap, _∙_, subst}
+use mathlib.Core.Bool.{false}
 use mathlib.Core.List.{List, [], _∷_, _++_, map, append-assoc, append-nil}
 use mathlib.Core.Logic.{_↔_, _≢_, by-cases}
 use Prim.Native.Nat.{ℕ, zero, suc, _+_, _≤_}
 use native.Mathlib.Decide.{decLt}
 use native.Mathlib.Omega.{arith}
 use lib.ListN.{length, replicate}
+use Rattle.refusal.specs.Order.{firstOf}
 use Rattle.model.specs.declared.Flow.{Flow}
 use Rattle.model.specs.Model.{enable, disable, without}
 use Rattle.tagset.specs.declared.TagSet.{TagSet}
-use Rattle.state.specs.State.{Storage, State, storageOf, stateOf, flowsOf, noFlow}
+use Rattle.tagset.specs.Set.{emptySet, sizeOf}
+use Rattle.state.specs.State.{Storage, State, storageOf, stateOf, setAt, flowsOf, noFlow}
 use Rattle.state.specs.Layout.{Fit64}
 use Rattle.state.specs.IsValid.{IsValid, Usable}
 use Rattle.tagstore.specs.Store.{totalOf}
@@ -19,9 +22,20 @@ use Rattle.calls.specs.declared.Reply.{Reply}
 use Rattle.calls.specs.declared.Reply.the-variants.{Accepted, NoSuchContainer, SelfFlow, StaleNumber, TableFull, NotEnabled, BadSize, PolicyFull, InvalidState}
 use Rattle.calls.specs.Replies.{answerOf, givenBack, leftBy}
 use Rattle.question.specs.declared.Tags.{Tags}
+use Rattle.question.specs.declared.Asking.{Asking}
+use Rattle.question.specs.declared.Asking.the-variants.{Fine, NoSuchContainer as AskingNoSuchContainer, BadSize as AskingBadSize, InvalidState as AskingInvalidState}
+use Rattle.question.specs.declared.Size.{Size}
+use Rattle.question.specs.declared.Size.the-variants.{Is as SizeIs, NoSuchContainer as SizeNoSuchContainer, BadSize as SizeBadSize, InvalidState as SizeInvalidState}
 use Rattle.question.specs.declared.Legal.{Legal}
-use Rattle.question.specs.Question.{tagsOf, legalOf}
-use Rattle.question.specs.Replies.{tagsReply, legalReply}
+use Rattle.question.specs.declared.Legal.the-variants.{Is as LegalIs, NoSuchContainer as LegalNoSuchContainer, BadSize as LegalBadSize, InvalidState as LegalInvalidState}
+use Rattle.question.specs.Question.{Asked, questionOrder, tagsOf, sizeAsked, isLegal, legalOf}
+use Rattle.question.specs.Replies.{askingOf, tagsReply, sizeReply, legalReply}
+use Rattle.question.specs.Laws.{asked-number, size-untold, legal-untold, QuestionAnswers, question-answers, bad-size as short-question, invalid-state as invalid-question, no-such-container as no-container, answered}
+use Rattle.ranking.specs.declared.Ranked.{Ranked}
+use Rattle.ranking.specs.declared.Ranked.the-variants.{Done, BadSize as RankedBadSize, ShortOutput as RankedShortOutput, InvalidState as RankedInvalidState}
+use Rattle.ranking.specs.Ranking.{rankOf}
+use Rattle.ranking.specs.Replies.{rankedReply}
+use Rattle.ranking.specs.Laws.{RankAnswers, rank-answers, bad-size as rank-bad-size, invalid-state as rank-invalid-state, short-output, done as ranked}
 use Rattle.leb128.specs.declared.Encoded.{Encoded}
 use Rattle.leb128.specs.declared.Encoded.the-variants.{Next, ShortOutput}
 use Rattle.leb128.specs.Answer.{writingOf}
@@ -63,12 +77,22 @@ StartGave n lent r left = leaving r left ≡ startOf n lent
 abbrev pub CallGave : State → Call → Answered → Storage → Type 0
 CallGave s c r left = leaving r left ≡ outcomeOf s c
 
--- `tags_of` and `is_legal`
+-- `tags_of`, `size_of`, `is_legal`
 abbrev pub TagsGave : State → ℕ → Tags → Type 0
 TagsGave s c r = tagsReply r ≡ tagsOf s c
 
+abbrev pub SizeGave : State → ℕ → Size → Type 0
+SizeGave s c r = sizeReply r ≡ sizeAsked s c
+
 abbrev pub LegalGave : State → ℕ → Legal → Type 0
 LegalGave s c r = legalReply r ≡ legalOf s c
+
+-- `rank`: its answer, and the output that it wrote
+abbrev pub RankGave : State → List ℕ → Ranked → Type 0
+RankGave s out r = rankedReply r ≡ rankOf s out .refusal
+
+abbrev pub RankWrote : State → List ℕ → List ℕ → Type 0
+RankWrote s out written = written ≡ rankOf s out .output
 
 -- `replay`: the run that its answer and the lists make up
 abbrev pub running : Replayed → Storage → Replay
@@ -271,7 +295,7 @@ call-reply s (ask (disable k)) = disable-reply s k (disable-answers s k (disable
 call-reply s (add c p) = add-reply s c p (add-answers s c p (addOf s c p .answer .refusal) .0 refl) (λ n. call-unaccepted s (add c p) n .1)
 
 -- the outcome of a call is left by some answer
-call-left : (s : State) (c : Call) → (r : Answered) × CallGave s c r (outcomeOf s c .state .storage)
+pub call-left : (s : State) (c : Call) → (r : Answered) × CallGave s c r (outcomeOf s c .state .storage)
 call-left s c =
     let o = outcomeOf s c in
     let w = call-reply s c in
@@ -313,16 +337,79 @@ called-on n lent done s x (c ∷ cs) =
     let y = called-on n lent (done ++ (c ∷ [])) _ (called x c (w .0) _ (w .1)) cs in
     (y .0, subst (λ (ds : List Call). Called n lent ds (y .0)) (append-assoc done (c ∷ []) cs) (y .1))
 
+-- the outcome of a start that is accepted is left by an answer that accepts
+pub start-left : (n : ℕ) (lent : Storage) → startOf n lent .answer .refusal ≡ 0
+    → (r : Answered) × StartGave n lent r (startOf n lent .state .storage) × (answerOf (r .reply) .refusal ≡ 0)
+start-left n lent a =
+    let o = startOf n lent in (
+      givenBack (Accepted (o .answer .gain)) (o .state .header),
+      λ i. record { answer = record { refusal = sym a i; gain = o .answer .gain }; state = o .state },
+      refl,
+    )
+
 -- so every list of calls can be called, from every start that is accepted
 pub called-of : (n : ℕ) (lent : Storage) → startOf n lent .answer .refusal ≡ 0 → (cs : List Call) → (s : State) × Called n lent cs s
-called-of n lent a cs =
-    called-on n lent [] _
-    (begun (givenBack (Accepted (o .answer .gain)) (o .state .header)) (o .state .storage)
-    (λ i. record { answer = record { refusal = sym a i; gain = o .answer .gain }; state = o .state }) refl)
-    cs
+called-of n lent a cs = let w = start-left n lent a in called-on n lent [] _ (begun (w .0) _ (w .1) (w .2)) cs
+
+-- a question is answered in one of four ways
+asked-is : {A : Type 0} (x : Asked A) (v : A) {k : ℕ} → x .refusal ≡ k → x .value ≡ v
+    → _≡_ {A = Asked A} (record { refusal = k; value = v }) x
+asked-is x v p q = λ i. record { refusal = sym p i; value = sym q i }
+
+module _ (s : State) (c : ℕ) where
+  tags-number : tagsOf s c .refusal ≡ firstOf (questionOrder s c) 0
+  unfolding tagsOf
+  tags-number = asked-number emptySet (setAt (s .storage .tags) c) (firstOf (questionOrder s c) 0)
+
+  pub tags-given : (r : Tags) × TagsGave s c r
+  tags-given = by-row (question-answers s c (tagsOf s c .refusal) .0 (sym tags-number)) refl
+    where
+      given : {k : ℕ} (asking : Asking) → askingOf asking ≡ k → tagsOf s c .refusal ≡ k → (r : Tags) × TagsGave s c r
+      given asking a e =
+          let set = tagsOf s c .value in
+          (record { asking = asking; set = set }, λ i. record { refusal = (a ∙ sym e) i; value = set })
+
+      by-row : {k : ℕ} → QuestionAnswers s c k → tagsOf s c .refusal ≡ k → (r : Tags) × TagsGave s c r
+      by-row (short-question z) = given AskingBadSize refl
+      by-row (invalid-question z v) = given AskingInvalidState refl
+      by-row (no-container u l) = given AskingNoSuchContainer refl
+      by-row (answered u l) = given Fine refl
+
+  size-number : sizeAsked s c .refusal ≡ firstOf (questionOrder s c) 0
+  unfolding sizeAsked
+  size-number = asked-number 0 (sizeOf (setAt (s .storage .tags) c)) (firstOf (questionOrder s c) 0)
+
+  pub size-given : (r : Size) × SizeGave s c r
+  size-given = by-row (question-answers s c (sizeAsked s c .refusal) .0 (sym size-number)) refl
+    where
+      by-row : {k : ℕ} → QuestionAnswers s c k → sizeAsked s c .refusal ≡ k → (r : Size) × SizeGave s c r
+      by-row (short-question z) e = (SizeBadSize, asked-is (sizeAsked s c) 0 e (size-untold s c 8 e))
+      by-row (invalid-question z v) e = (SizeInvalidState, asked-is (sizeAsked s c) 0 e (size-untold s c 11 e))
+      by-row (no-container u l) e = (SizeNoSuchContainer, asked-is (sizeAsked s c) 0 e (size-untold s c 3 e))
+      by-row (answered u l) e = (SizeIs (sizeAsked s c .value), asked-is (sizeAsked s c) (sizeAsked s c .value) e refl)
+
+  legal-number : legalOf s c .refusal ≡ firstOf (questionOrder s c) 0
+  unfolding legalOf
+  legal-number = asked-number false (isLegal s c) (firstOf (questionOrder s c) 0)
+
+  pub legal-given : (r : Legal) × LegalGave s c r
+  legal-given = by-row (question-answers s c (legalOf s c .refusal) .0 (sym legal-number)) refl
+    where
+      by-row : {k : ℕ} → QuestionAnswers s c k → legalOf s c .refusal ≡ k → (r : Legal) × LegalGave s c r
+      by-row (short-question z) e = (LegalBadSize, asked-is (legalOf s c) false e (legal-untold s c 8 e))
+      by-row (invalid-question z v) e = (LegalInvalidState, asked-is (legalOf s c) false e (legal-untold s c 11 e))
+      by-row (no-container u l) e = (LegalNoSuchContainer, asked-is (legalOf s c) false e (legal-untold s c 3 e))
+      by-row (answered u l) e = (LegalIs (legalOf s c .value), asked-is (legalOf s c) (legalOf s c .value) e refl)
+
+-- and so is the ranking
+pub rank-given : (s : State) (out : List ℕ) → (r : Ranked) × RankGave s out r
+rank-given s out = by-row (rank-answers s out (rankOf s out .refusal) .0 refl) refl
   where
-    o : Outcome
-    o = startOf n lent
+    by-row : {k : ℕ} → RankAnswers s out k → rankOf s out .refusal ≡ k → (r : Ranked) × RankGave s out r
+    by-row (rank-bad-size z) e = (RankedBadSize, sym e)
+    by-row (rank-invalid-state z v) e = (RankedInvalidState, sym e)
+    by-row (short-output u l) e = (RankedShortOutput, sym e)
+    by-row (ranked u l) e = (Done, sym e)
 
 -- what a `tally` writes and leaves is given back by some answer
 pub tally-left : (bs tags policies counts out : List ℕ)
@@ -363,12 +450,18 @@ tally-as-calls bs lentTags lentPolicies lentCounts are a short r tags policies c
 
 -- and there are such calls, for every replay and every `tally` whose n and storage are accepted
 pub replay-begins : (bs : List ℕ) (lent : Storage) → IsBytes bs → containersIn bs lent .refusal ≡ 0
-    → (s : State) × Called (headAt bs .value) lent (map callOf (doneOf bs)) s
-replay-begins bs lent are a = let w = replay-left bs lent are in (_, replay-as-calls bs lent are a (w .0) _ (w .1))
+    → (r : Replayed) × (left : Storage) × ReplayGave bs lent r left
+    × Called (headAt bs .value) lent (map callOf (doneOf bs)) (running r left .state)
+replay-begins bs lent are a =
+    let w = replay-left bs lent are in (w .0, _, w .1, replay-as-calls bs lent are a (w .0) _ (w .1))
 
 pub tally-begins : (bs tags policies counts : List ℕ)
     → (let lent = withNewTable tags policies counts in
+    let x = leftOf bs lent .storage in
     IsBytes bs → containersIn bs lent .refusal ≡ 0 → length bs ≤ 16384
-    → (s : State) × Called (headAt bs .value) lent (map callOf (doneOf bs)) s)
+    → (r : Tallied) × TallyLeft bs lent r (x .tags) (x .policies) (x .policyCounts)
+    × Called (headAt bs .value) lent (map callOf (doneOf bs))
+    (stateOf (r .header) (x .tags) (x .policies) (x .policyCounts) (r .flows)))
 tally-begins bs tags policies counts are a short =
-    let w = tally-left bs tags policies counts [] in (_, tally-as-calls bs tags policies counts are a (omega (arith, short)) (w .0) _ _ _ (w .2))
+    let w = tally-left bs tags policies counts [] in
+    (w .0, w .2, tally-as-calls bs tags policies counts are a (omega (arith, short)) (w .0) _ _ _ (w .2))
