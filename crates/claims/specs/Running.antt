@@ -1,5 +1,6 @@
--- The running calls. A call's contract (tracker/src/lib.rt) says that what it gives back and leaves makes up the outcome of its definition; so all that is
--- claimed of the outcome is true of the call. Gathered here for each call, and for calls one after the other. Assumes nothing.
+-- The running calls. A call's contract (tracker/src/lib.rt) says that what it gives back and leaves makes up the outcome
+-- of its definition; so all that is claimed of the outcome is true of the call. Here: what the contracts say, what is
+-- true of each call, and of calls one after the other. Assumes nothing.
 use mathlib.Core.Path.{_≡_, refl, sym, ap, _∙_, subst}
 use mathlib.Core.Bool.{false}
 use mathlib.Core.List.{List, [], _∷_, _++_, map, append-assoc, append-nil}
@@ -228,8 +229,8 @@ add-does s c p =
       keeps-valid = call-keeps IsValid s (add c p) (λ s u. u .valid);
     }
 
--- CALLS ONE AFTER THE OTHER: a start that was accepted, then calls, each on the header that the call before gave back and
--- the lists that it left, refused or not. What is known of each call is what its contract says, and no more
+-- CALLS ONE AFTER THE OTHER: a start that was accepted, then calls, each on the header that the call before gave back
+-- and the lists that it left, refused or not. What is known of each call is what its contract says, and no more
 pub data Called (n : ℕ) (lent : Storage) : List Call → State → Type 0 where
   begun : (r : Answered) (left : Storage) → StartGave n lent r left → answerOf (r .reply) .refusal ≡ 0
       → Called n lent [] (leaving r left .state)
@@ -315,7 +316,8 @@ ending-of (suc (suc (suc (suc (suc (suc (suc (suc zero)))))))) l = (EndNotEnable
 ending-of (suc (suc (suc (suc (suc (suc (suc (suc (suc zero))))))))) l = (EndBadSize, refl)
 ending-of (suc (suc (suc (suc (suc (suc (suc (suc (suc (suc k)))))))))) l = absurd (omega (arith, l))
 
-pub replay-left : (bs : List ℕ) (lent : Storage) → IsBytes bs → (r : Replayed) × ReplayGave bs lent r (replayOf bs lent .state .storage)
+pub replay-left : (bs : List ℕ) (lent : Storage) → IsBytes bs
+    → (r : Replayed) × ReplayGave bs lent r (replayOf bs lent .state .storage)
 replay-left bs lent are =
     let x = replayOf bs lent in
     let e = ending-of (x .refusal) (replay-refusal bs lent are) in (
@@ -419,10 +421,11 @@ pub tally-left : (bs tags policies counts out : List ℕ)
 tally-left bs tags policies counts out =
     let lent = withNewTable tags policies counts in
     let x = leftOf bs lent in
-    let w = written-by out 0 (textOf bs lent) in (record { reply = w .0; header = x .header; flows = x .storage .flows }, w .1, refl)
+    let w = written-by out 0 (textOf bs lent) in
+    (record { reply = w .0; header = x .header; flows = x .storage .flows }, w .1, refl)
 
--- A REPLAY, OR A `tally`, COUNTS AS SUCH CALLS: a start and the calls of its events, of those that its bytes hold the first
--- that join (`doneOf`), found from the bytes alone
+-- A REPLAY, OR A `tally`, COUNTS AS SUCH CALLS: a start and the calls of its events, of those that its bytes hold the
+-- first that join (`doneOf`), found from the bytes alone
 
 -- where n and the storage are accepted, calls that left what the run leaves
 as-called : (bs : List ℕ) (lent : Storage) → IsBytes bs → containersIn bs lent .refusal ≡ 0
@@ -432,7 +435,8 @@ as-called bs lent are a e =
     let cs = map callOf (doneOf bs) in
     let x = called-of n lent (replay-starts bs lent a) cs in
     let run : replayOf bs lent .state ≡ after (startOf n lent .state) cs =
-    replay-does bs lent are a .state ∙ ap (λ (es : List LogEvent). after (startOf n lent .state) (map callOf es)) (replay-done bs lent are a) in
+    replay-does bs lent are a .state
+    ∙ ap (λ (es : List LogEvent). after (startOf n lent .state) (map callOf es)) (replay-done bs lent are a) in
     subst (Called n lent cs) (called-is (x .1) .1 ∙ sym (e ∙ run)) (x .1)
 
 pub replay-as-calls : (bs : List ℕ) (lent : Storage) → IsBytes bs → containersIn bs lent .refusal ≡ 0
@@ -446,7 +450,8 @@ pub tally-as-calls : (bs lentTags lentPolicies lentCounts : List ℕ)
     → length bs ≤ 16384 → (r : Tallied) (tags policies counts : List ℕ) → TallyLeft bs lent r tags policies counts
     → Called (headAt bs .value) lent (map callOf (doneOf bs)) (stateOf (r .header) tags policies counts (r .flows)))
 tally-as-calls bs lentTags lentPolicies lentCounts are a short r tags policies counts e =
-    let lent = withNewTable lentTags lentPolicies lentCounts in as-called bs lent are a (e ∙ left-of-replay bs lent (omega (arith, short)))
+    let lent = withNewTable lentTags lentPolicies lentCounts in
+    as-called bs lent are a (e ∙ left-of-replay bs lent (omega (arith, short)))
 
 -- and there are such calls, for every replay and every `tally` whose n and storage are accepted
 pub replay-begins : (bs : List ℕ) (lent : Storage) → IsBytes bs → containersIn bs lent .refusal ≡ 0

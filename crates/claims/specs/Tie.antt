@@ -40,8 +40,8 @@ lists tags policies counts flows = storageOf (tags .now) (policies .now) (counts
 abbrev pub given : Header → RefT (List ℕ) → RefT (List ℕ) → RefT (List ℕ) → RefT (List Flow) → State
 given header tags policies counts flows = stateOf header (tags .now) (policies .now) (counts .now) (flows .now)
 
--- a contract that requires nothing and ensures what `says` says: of the arguments in their order, of the result, and of the
--- arguments at exit
+-- a contract that requires nothing and ensures what `says` says: of the arguments in their order, of the result, and of
+-- the arguments at exit
 abbrev pub Ensures : {M : Type 1} (𝓤 : URA M) (T : Ended)
     → ((κs : Lfts (T .signature .lifetimes)) → Args (T .signature) κs → Res (T .signature) κs → AtExit T κs → SProp 𝓤)
     → Clauses 𝓤 T
@@ -58,19 +58,22 @@ module _ {M : Type 1} (𝓤 : URA M) (H : Heap 𝓤) (A : Atoms 𝓤) (mem : Mem
 
   pub enable-contract : enable-it.clauses 𝓤 H A mem run ≡ Ensures 𝓤 enable-it.ended
       (λ κs (header, (tags, (policies, (counts, (flows, (flow, _)))))) r (_, (tags′, (_, (_, (flows′, _))))).
-      fact 𝓤 (CallGave (given header tags policies counts flows) (ask (enable flow)) r (lists tags′ policies counts flows′)))
+      fact 𝓤 (CallGave (given header tags policies counts flows) (ask (enable flow))
+      r (lists tags′ policies counts flows′)))
   unfolding outcomeOf
   enable-contract = refl
 
   pub disable-contract : disable-it.clauses 𝓤 H A mem run ≡ Ensures 𝓤 disable-it.ended
       (λ κs (header, (tags, (policies, (counts, (flows, (number, _)))))) r (_, (_, (_, (_, (flows′, _))))).
-      fact 𝓤 (CallGave (given header tags policies counts flows) (ask (disable number)) r (lists tags policies counts flows′)))
+      fact 𝓤 (CallGave (given header tags policies counts flows) (ask (disable number))
+      r (lists tags policies counts flows′)))
   unfolding outcomeOf
   disable-contract = refl
 
   pub add-policy-contract : add-it.clauses 𝓤 H A mem run ≡ Ensures 𝓤 add-it.ended
       (λ κs (header, (tags, (policies, (counts, (flows, (c, (policy, _))))))) r (_, (_, (policies′, (counts′, _)))).
-      fact 𝓤 (CallGave (given header tags policies counts flows) (add c policy) r (lists tags policies′ counts′ flows)))
+      fact 𝓤 (CallGave (given header tags policies counts flows) (add c policy)
+      r (lists tags policies′ counts′ flows)))
   unfolding outcomeOf
   add-policy-contract = refl
 
