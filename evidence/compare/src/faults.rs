@@ -123,6 +123,7 @@ mod tests {
     use crate::counts::Class;
     use crate::wrapper::RIGHT;
     use fast::Fast;
+    use reference::Reference;
     use std::collections::HashSet;
 
     /// The inputs with which the tests look for a difference.
@@ -202,6 +203,21 @@ mod tests {
             }
             assert!(compared(&[Class::ManyEvents]).is_err(), "{} is not found", fault.name);
         }
+    }
+
+    /// A ranking that two implementations have wrong alike, as two of one algorithm may, is missed between them and found
+    /// beside the plain reference, which has another.
+    #[test]
+    fn wrong_alike_is_found_beside_the_reference() {
+        let pool = Pool::new(&Fast, 1);
+        let rankings = faults().into_iter().filter(|fault| fault.name.starts_with("ranking ") && fault.scope == Scope::Calls);
+        let met = rankings.map(|fault| {
+            let alike = [0, 1].map(|_| Faulty::new(&Fast, fault.hooks, fault.scope, fault.aim));
+            let compared = |first| compare_classes(&[Class::Valid], &pool, [first, &alike[1]], 500, 1);
+            assert!(compared(&alike[0]).is_ok(), "{} is found where both have it", fault.name);
+            assert!(compared(&Reference).is_err(), "{} is not found beside the reference", fault.name);
+        });
+        assert_eq!(met.count(), 3);
     }
 
     /// No two faults have the same name.
