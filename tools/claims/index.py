@@ -10,9 +10,12 @@
 3. Every quotation stands in the papers, within one paragraph. It is between ' and ' and ends before one of : , ; . ) or
    at the end of its entry, so that an apostrophe within it is no end; [..] stands for a part that is left out.
 4. Of every sentence of document 01 at least half is quoted.
-5. Every public function of tracker, report and foreign has the entry of its name in Tie.antt or Exports.antt.
-6. The sections of the claims have the heads that ties.py lists, and no other.
-7. Every word of Running.antt for what a call gave is in an entry of Tie.antt, and a hypothesis of a theorem of
+5. Behind every quotation something is named that fixes it: a theorem, a name in backquotes, a path or a row of the
+   samples, which the table has to have; or it has one of the phrases that entries.py lists.
+6. The entries of the three demands have at least the names that DEMANDS lists, and the first every contract of Tie.antt.
+7. Every public function of tracker, report and foreign has the entry of its name in Tie.antt or Exports.antt.
+8. The sections of the claims have the heads that ties.py lists, and no other.
+9. Every word of Running.antt for what a call gave is in an entry of Tie.antt, and a hypothesis of a theorem of
    Claims.antt; and behind such a hypothesis a theorem speaks of the call's result.
 The papers are in ../shared/papers beside the repository, or where the environment variable PAPERS says.
 """
@@ -23,8 +26,19 @@ sys.dont_write_bytecode = True
 import papers
 import ties
 import wrong
-from entries import Index
-from sources import CLAIMS, Sources, claimed
+from antt import CLOSING, OPENING, joined, tokens
+from entries import index_of
+from sources import CLAIMS, SAMPLES, Sources, claimed
+
+# The calls whose answers are by the table of refusals; and names that the entry of each demand has at least.
+ANSWERING = ("start", "enable", "disable", "add", "set", "size", "permission", "rank", "n", "reading", "reading-n")
+DEMANDS = {
+    "1": [f"{call}-answers-by-the-table" for call in ANSWERING]
+    + ["refused-start-changes-nothing", "refused-call-changes-nothing"],
+    "2": ["sets-are-flows", "called-sets-are-flows", "no-flow-is-missed", "no-flow-is-invented",
+          "a-written-record-is-read-back", "an-accepted-record-is-what-we-write", "an-accepted-log-is-what-we-write"],
+    "3": ["demand-3", "called-demand-3"],
+}
 
 
 def faults_of_names(index, sources):
@@ -52,15 +66,40 @@ def faults_of_quotations(index, text):
     """Quotations that the papers do not have, and sentences of document 01 that are not quoted."""
     absent = [(line, said) for line, said in index.quotations if not text.places(said)]
     found = [(CLAIMS[0], line, f"not in the papers: {said}") for line, said in absent]
-    missing = text.unquoted([said for _, said in index.quotations])
+    missing = text.unquoted(tuple(said for _, said in index.quotations))
     return found + [(CLAIMS[0], index.line, f"no quotation of: {sentence}") for sentence in missing]
+
+
+def faults_of_demands(index, sources):
+    """Demands without an entry, and names that it lacks: of the first also each contract of Tie.antt."""
+    contracts = [one.name for one in sources.file(CLAIMS[1]).declared if one.name.endswith("-contract")]
+    needed = {**DEMANDS, "1": DEMANDS["1"] + contracts}
+    pairs = [(demand, name) for demand, names in needed.items() for name in names]
+    lacking = [(demand, name) for demand, name in pairs if name not in index.demands.get(demand, ())]
+    return [(CLAIMS[0], index.line, f"DEMAND {demand} is without {name}") for demand, name in lacking]
+
+
+def number_of_samples(sources):
+    """How many rows the table of samples has: the constructors in it that are in no bracket."""
+    names, depth, found = sources.file(SAMPLES).names, 0, 0
+    for word in tokens(joined(names["samples"].body)):
+        depth += (word in OPENING) - (word in CLOSING)
+        found += depth == 0 and word in names["Sample"].members
+    return found
+
+
+def faults_of_entries(index, sources):
+    """Quotations that nothing fixes, and rows that the table of samples does not have."""
+    found = [(CLAIMS[0], line, f"nothing is named for: {said}") for line, said in index.unfixed]
+    last = number_of_samples(sources)
+    return found + [(CLAIMS[0], line, f"no row {row} of {last}") for line, row in index.rows if not 1 <= row <= last]
 
 
 def faults(sources, text):
     """All that is wrong with the index, and the line that says how much it holds."""
-    index = Index(sources.text(CLAIMS[0]))
+    index = index_of(sources.text(CLAIMS[0]))
     found = faults_of_names(index, sources) + faults_of_paths(index, sources) + faults_of_quotations(index, text)
-    found += ties.faults(sources)
+    found += faults_of_demands(index, sources) + faults_of_entries(index, sources) + ties.faults(sources)
     names = len({name for _, name, _ in index.cited})
     return sorted(found), f"index: {len(claimed(sources))} theorems, {names} names, {len(index.quotations)} quotations"
 

@@ -42,6 +42,7 @@ class Papers:
             found += [(k, *match.span()) for match in SENTENCE.finditer(block, MARK.match(block).end())]
         return [(k, start, end) for k, start, end in found if " " in self.scope[k][start:end].strip()]
 
+    @functools.lru_cache(maxsize=None)
     def unquoted(self, quotations):
         """The sentences of document 01 of which the quotations have less than half."""
         spans = [place for said in quotations for place in self.places(said)]

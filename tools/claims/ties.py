@@ -122,7 +122,8 @@ def within(words):
 
 def hypotheses(words, theorem):
     """Each of these words that a theorem has to the left of an arrow: the word, its arguments, and its conclusion."""
-    said = tokens(joined(theorem.head))
+    text = joined(theorem.head)
+    said = tokens(text) if any(word in text for word in words) else []
     found = [(k, arrow(said[k:])) for k, word in enumerate(said) if word in words]
     return [(said[k], arguments(said[k + 1:]), within(said[k + at + 1:])) for k, at in found if at is not None]
 

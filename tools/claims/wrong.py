@@ -2,13 +2,13 @@
 import re
 
 import papers
-from entries import Index
+from entries import index_of
 from sources import CLAIMS, RUNNING
 
 
 def chosen(text):
     """A theorem, a name with its file, and an edit, as the index has them."""
-    index, head = Index(text), text.split("\nuse ", 1)[0]
+    index, head = index_of(text), text.split("\nuse ", 1)[0]
     name = next(name for _, name in index.names if "-" in name)
     cited = next((name, path) for _, name, path in index.cited if f"`{name}` ({path})" in head)
     return name, cited, next(path for _, path, _ in index.paths if path.endswith(".edit"))
@@ -36,7 +36,7 @@ def wrong_names(text, head, body):
 
 def wrong_quotations(text, head, body):
     """Copies with a wrong quotation, in the same way; one has an apostrophe, one goes over two lines."""
-    quotations = [said for _, said in Index(text).quotations if len(said.split()) > 4]
+    quotations = [said for _, said in index_of(text).quotations if len(said.split()) > 4]
     said = next(said for said in quotations if f"'{said}'" in head)
     owned = next(said for said in quotations if "' " in said and f"'{said}'" in head)
     wrapped = next(said for said in quotations if said not in head)
@@ -48,6 +48,25 @@ def wrong_quotations(text, head, body):
         ("a part left out without a mark", copy(" [..] ", " "), "not in the papers: "),
         ("an apostrophe", copy(f"'{owned}'", f"'{owned} not'"), f"not in the papers: {owned} not"),
         ("a wrapped quotation", copy(wrapped.split()[-1] + "'", "not'"), f"not in the papers: {wrapped[:20]}"),
+    ]
+
+
+def wrong_entries(text, head, body):
+    """Copies with an entry that names nothing, names a row that there is not, or lacks what a demand has to name."""
+    more = lambda entry: f"{head}\n-- {entry}\nuse {body}"
+    said = next(said for _, said in index_of(text).quotations if f"'{said}'" in head)
+    without = lambda name: re.sub(rf"(?<=[\s]){name}(?=[\s,;])", "", head) + f"\n-- more: {name}\nuse {body}"
+    nothing, lacks = f"nothing is named for: {said}", "is without"
+    return [
+        ("an entry that is emptied", more(f"'{said}':"), nothing),
+        ("an entry of words alone", more(f"'{said}': this holds"), nothing),
+        ("an entry with no colon", more(f"'{said}'"), nothing),
+        ("the first of two that is emptied", more(f"'{said}': it holds; '{said}': demand-3"), nothing),
+        ("a row that there is not", head.replace("rows 14 and 15", "rows 14 and 91") + f"\nuse {body}", "no row 91"),
+        ("a demand without an entry", text.replace("-- DEMAND 3:", "-- DEMANDS:"), f"DEMAND 3 {lacks} demand-3"),
+        ("demand 1 without a call", without("rank-answers-by-the-table"), f"1 {lacks} rank-answers-by-the-table"),
+        ("demand 1 without a contract", without("tally-contract"), f"DEMAND 1 {lacks} tally-contract"),
+        ("demand 2 without its sets", without("sets-are-flows"), f"DEMAND 2 {lacks} sets-are-flows"),
     ]
 
 
@@ -120,5 +139,6 @@ def copies(sources):
     """All wrong copies."""
     text = sources.text(CLAIMS[0])
     parts = text.split("\nuse ", 1)
-    found = [(name, CLAIMS[0], *rest) for name, *rest in wrong_names(text, *parts) + wrong_quotations(text, *parts)]
+    indexes = wrong_names(text, *parts) + wrong_quotations(text, *parts) + wrong_entries(text, *parts)
+    found = [(name, CLAIMS[0], *rest) for name, *rest in indexes]
     return found + wrong_ties(sources) + wrong_heads(sources) + wrong_words(sources) + wrong_hypotheses(sources)
