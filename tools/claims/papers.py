@@ -29,11 +29,12 @@ class Papers:
 
     @functools.lru_cache(maxsize=None)
     def places(self, quotation):
-        """Where a quotation stands, as whole words; a part may be left out where it says [..]. Each is the block, and
-        from where to where in it; the first blocks are those of document 01."""
-        said = [re.escape(part.strip()) for part in folded(quotation).split("[..]")]
-        pattern = re.compile(r"(?<!\w)" + r"\b.*?\b".join(said) + r"(?!\w)")
-        return [(k, *match.span()) for k, block in enumerate(self.blocks) for match in pattern.finditer(block)]
+        """Where each part of a quotation stands, as whole words; [..] between two is for what is left out. Each place is
+        the block, and from where to where in it; the first blocks are those of document 01."""
+        parts = [f"({re.escape(part.strip())})" for part in folded(quotation).split("[..]")]
+        pattern = re.compile(r"(?<!\w)" + r"\b.*?\b".join(parts) + r"(?!\w)")
+        found = [(k, match) for k, block in enumerate(self.blocks) for match in pattern.finditer(block)]
+        return [(k, *match.span(part)) for k, match in found for part in range(1, len(parts) + 1)]
 
     def sentences(self):
         """The sentences of document 01, of a row its last cell: the block, and from where to where in it."""
@@ -44,12 +45,13 @@ class Papers:
 
     @functools.lru_cache(maxsize=None)
     def unquoted(self, quotations):
-        """The sentences of document 01 of which the quotations have less than half."""
+        """The sentences of document 01 of which the quotations have less than nine tenths of the letters and digits."""
         spans = [place for said in quotations for place in self.places(said)]
         quoted = {(k, at) for k, start, end in spans for at in range(start, end)}
         found = []
         for k, start, end in self.sentences():
-            if 2 * sum((k, at) in quoted for at in range(start, end)) < end - start:
+            letters = [at for at in range(start, end) if self.scope[k][at].isalnum()]
+            if 10 * sum((k, at) in quoted for at in letters) < 9 * len(letters):
                 found.append(self.scope[k][start:end].strip(" |"))
         return found
 

@@ -38,14 +38,17 @@ def wrong_quotations(text, head, body):
     """Copies with a wrong quotation, in the same way; one has an apostrophe, one goes over two lines."""
     quotations = [said for _, said in index_of(text).quotations if len(said.split()) > 4]
     said = next(said for said in quotations if f"'{said}'" in head)
+    ends, unquoted = (said.split()[0], said.split()[-1]), f"no quotation of: {papers.folded(said)}"
     owned = next(said for said in quotations if "' " in said and f"'{said}'" in head)
     wrapped = next(said for said in quotations if said not in head)
     copy = lambda old, new: head.replace(old, new) + "\nuse " + body
     return [
         ("a changed quotation", copy(f"'{said}'", f"'{said} not'"), f"not in the papers: {said} not"),
         ("a part of a word", copy(f"'{said}'", f"'{said[:-1]}'"), f"not in the papers: {said[:-1]}"),
-        ("a sentence not quoted", copy(f"'{said}'", ""), f"no quotation of: {papers.folded(said)}"),
-        ("a part left out without a mark", copy(" [..] ", " "), "not in the papers: "),
+        ("a sentence not quoted", copy(f"'{said}'", ""), unquoted),
+        ("a part left out without a mark", copy(f"'{said}'", f"'{ends[0]} {ends[1]}'"), f"not in the papers: {ends[0]}"),
+        ("a part left out", copy(f"'{said}'", f"'{ends[0]} [..] {ends[1]}'"), unquoted),
+        ("a fifth left out", copy(f"'{said}'", f"'{said[:len(said) * 4 // 5].rsplit(' ', 1)[0]}'"), unquoted),
         ("an apostrophe", copy(f"'{owned}'", f"'{owned} not'"), f"not in the papers: {owned} not"),
         ("a wrapped quotation", copy(wrapped.split()[-1] + "'", "not'"), f"not in the papers: {wrapped[:20]}"),
     ]
