@@ -9,7 +9,7 @@
    hyphen, and any other that stands alone in a list.
 3. Every quotation stands in the papers, within one paragraph. It is between ' and ' and ends before one of : , ; . ) or
    at the end of its entry, so that an apostrophe within it is no end; [..] stands for a part that is left out.
-4. Of every sentence of document 01 at least nine tenths are quoted; what a [..] leaves out is not.
+4. Every sentence of document 01 is quoted, each letter and digit of it; what a [..] leaves out is not.
 5. Behind every quotation something is named that fixes it: a theorem, a name in backquotes, a path or a row of the
    samples, which the table has to have; or it has one of the phrases that entries.py lists.
 6. The entries of the three demands have at least the names that DEMANDS lists, and the first every contract of Tie.antt.

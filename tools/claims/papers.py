@@ -45,13 +45,12 @@ class Papers:
 
     @functools.lru_cache(maxsize=None)
     def unquoted(self, quotations):
-        """The sentences of document 01 of which the quotations have less than nine tenths of the letters and digits."""
+        """The sentences of document 01 of which a letter or a digit is in no quotation."""
         spans = [place for said in quotations for place in self.places(said)]
         quoted = {(k, at) for k, start, end in spans for at in range(start, end)}
         found = []
         for k, start, end in self.sentences():
-            letters = [at for at in range(start, end) if self.scope[k][at].isalnum()]
-            if 10 * sum((k, at) in quoted for at in letters) < 9 * len(letters):
+            if any(self.scope[k][at].isalnum() and (k, at) not in quoted for at in range(start, end)):
                 found.append(self.scope[k][start:end].strip(" |"))
         return found
 

@@ -48,7 +48,7 @@ def wrong_quotations(text, head, body):
         ("a sentence not quoted", copy(f"'{said}'", ""), unquoted),
         ("a part left out without a mark", copy(f"'{said}'", f"'{ends[0]} {ends[1]}'"), f"not in the papers: {ends[0]}"),
         ("a part left out", copy(f"'{said}'", f"'{ends[0]} [..] {ends[1]}'"), unquoted),
-        ("a fifth left out", copy(f"'{said}'", f"'{said[:len(said) * 4 // 5].rsplit(' ', 1)[0]}'"), unquoted),
+        ("the last word left out", copy(f"'{said}'", f"'{said.rsplit(' ', 1)[0]}'"), unquoted),
         ("an apostrophe", copy(f"'{owned}'", f"'{owned} not'"), f"not in the papers: {owned} not"),
         ("a wrapped quotation", copy(wrapped.split()[-1] + "'", "not'"), f"not in the papers: {wrapped[:20]}"),
     ]

@@ -131,7 +131,7 @@
 --   'no set names a tag of n or more': `known-tags`, `known-policies` (state/specs/IsValid.antt)
 --   'each holder has its own tag': `own` (state/specs/IsValid.antt)
 --   'for each open channel the from-set is part of the to-set': `carried` (state/specs/IsValid.antt)
---   'unused places are zero': `unused-flows`, `unused-policies` (state/specs/IsValid.antt)
+--   'and unused places are zero': `unused-flows`, `unused-policies` (state/specs/IsValid.antt)
 -- 'The log reader and the tracker are built over numbers and tag sets, and use only their stated behaviour': no theorem; crates.txt
 --   at the repository's root says which crate is over which, and the proof of a function knows of those that it calls their contracts alone
 --
@@ -184,7 +184,7 @@
 --   a-refused-question-tells-nothing, reading-answers-by-the-table, reading-n-answers-by-the-table, writing-answers-10-exactly-if-it-does-not-fit; `unread`
 --   (eventlog/specs/Answer.antt), `refused`, `unwritten` (leb128/specs/Answer.antt)
 -- 'the book's small numbers come back as they went in (0 from starting)': refused-call-changes-nothing, refused-start-changes-nothing
--- 'all lent memory keeps its content': the same, refused-rank-changes-nothing, writing-answers-10-exactly-if-it-does-not-fit, a-short-output-keeps-its-bytes
+-- 'and all lent memory keeps its content': the same, refused-rank-changes-nothing, writing-answers-10-exactly-if-it-does-not-fit, a-short-output-keeps-its-bytes
 -- 'The run over a whole log differs in this: it answers also the byte, counted from 0, at which the refused record begins,
 --   the events done and their gain, and the book is as after those events':
 --   replay-is-starting-and-calls, a-refused-event-ends-the-log, the-events-done-are-those-that-join; `Stops` (replay/specs/Laws.antt)
