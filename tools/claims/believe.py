@@ -7,7 +7,8 @@ down to the kit's own library, which is not counted: a definition with its body,
 with its contract alone, and the line of the module around each. Not counted are comments, blank lines, imports and
 proofs. A name that is neither `abbrev` nor `unfoldable` cannot be unfolded in another file; where one is used there (a
 proof that a statement names) its statement is counted. DIR is the repository, this one if none is named; with --list
-each declaration follows, with its file and its lines.
+each declaration follows, with its file and its lines. Ends non-zero where a name or a file is missing, but for the rows
+of the ties on an older checkout that has no Tie.antt.
 """
 import os
 import sys
@@ -17,6 +18,7 @@ from repository import Repository
 
 CLAIMS = "claims/specs/Claims.antt"
 TIE = "claims/specs/Tie.antt"
+EXPORTS = "claims/specs/Exports.antt"
 TRACKER = "tracker/src/lib.rt"
 CALLS = ["start", "enable", "disable", "add_policy", "tags_of", "size_of", "is_legal", "rank", "replay"]
 TIED = ["start", "enable", "disable", "add_policy"]
@@ -42,15 +44,15 @@ def lines_of(part):
 
 
 def public(repository, path):
+    if path not in repository.files:
+        raise LookupError(f"no file {path}")
     return [one for one in repository.files[path].declared if one.public]
 
 
 def tied(repository):
     """What Tie.antt states on the contracts of the calls by which a list is made."""
-    if TIE not in repository.files:
-        raise LookupError(f"no file {TIE}")
-    calls = [repository.declared(TRACKER, name) for name in TIED]
     ties = public(repository, TIE)
+    calls = [repository.declared(TRACKER, name) for name in TIED]
     return [one for one in ties if any(used in calls for used, _ in closure(repository, [one]))]
 
 
@@ -63,6 +65,10 @@ def with_tie(repository, path, names):
     return roots(repository, path, names) + tied(repository)
 
 
+def with_ties(repository, path, names):
+    return roots(repository, path, names) + public(repository, TIE) + public(repository, EXPORTS)
+
+
 # Each claim, where it stands, and what is stated: that of these names, or all that is public there.
 ROWS = [
     ("the nine calls", roots, TRACKER, CALLS),
@@ -70,6 +76,7 @@ ROWS = [
     ("demand 3 of running code", roots, CLAIMS, ["called-demand-3"]),
     ("demand 3 of running code, and the tie", with_tie, CLAIMS, ["called-demand-3"]),
     ("all claims", roots, CLAIMS, []),
+    ("all claims, and the ties", with_ties, CLAIMS, []),
 ]
 
 
@@ -102,16 +109,18 @@ def row(repository, name, found):
 def main(arguments):
     given = [word for word in arguments if word != "--list"]
     here = os.path.join(os.path.dirname(os.path.abspath(__file__)), "../..")
-    repository = Repository(given[0] if given else here)
+    repository, missing = Repository(given[0] if given else here), False
     print(f"{'claim':40}" + "".join(f"{word:>13}" for word in ("statements", "definitions", "lines", "files")))
     for name, find, path, names in ROWS:
         try:
             text, part = row(repository, name, find(repository, path, names))
         except LookupError as error:
             text, part = f"{name:40}    {error.args[0]}", []
+            missing |= find is roots or TIE in repository.files
         print(text)
         if "--list" in arguments:
             listed(part)
+    sys.exit(1 if missing else 0)
 
 
 if __name__ == "__main__":
