@@ -12,7 +12,7 @@
 4. Every sentence of document 01 is quoted, each letter and digit of it; what a [..] leaves out is not.
 5. Behind every quotation something is named that fixes it: a theorem, a name in backquotes, a path or a row of the
    samples, which the table has to have; or it has one of the phrases that entries.py lists.
-6. The entries of the three demands have at least the names that DEMANDS lists, and the first every contract of Tie.antt.
+6. The entries of the three demands have the names that DEMANDS lists, and the first every contract of Tie.antt.
 7. Every public function of tracker, report and foreign has the entry of its name in Tie.antt or Exports.antt.
 8. The sections of the claims have the heads that ties.py lists, and no other.
 9. Every word of Running.antt for what a call gave is in an entry of Tie.antt, and a hypothesis of a theorem of

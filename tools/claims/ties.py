@@ -7,7 +7,8 @@ from sources import CLAIMS, RUNNING
 
 # The only heads that a section may have: one parameter more would be a hypothesis of every theorem below it.
 CONTRACTS = (
-    "module _ {M : Type 1} (𝓤 : URA M) (H : Heap 𝓤) (A : Atoms 𝓤) (mem : Memory → SProp 𝓤) (run : Routine → Fun 𝓤) where",
+    "module _ {M : Type 1} (𝓤 : URA M) (H : Heap 𝓤) (A : Atoms 𝓤) (mem : Memory → SProp 𝓤) "
+    "(run : Routine → Fun 𝓤) where",
 )
 LISTS = (
     "module _ (n : ℕ) (lent : Storage) (begun : startOf n lent .answer .refusal ≡ 0) (calls : List Call) where",
@@ -15,7 +16,11 @@ LISTS = (
 )
 HEADS = dict(zip(CLAIMS, (LISTS, CONTRACTS, CONTRACTS)))
 # The crates whose public functions are tied: the file of the entries, what stands before a name, and what it loses.
-TIES = [("tracker", CLAIMS[1], "", ""), ("report", CLAIMS[1], "", ""), ("foreign", CLAIMS[2], "exported-", "tracker_|log_")]
+TIES = [
+    ("tracker", CLAIMS[1], "", ""),
+    ("report", CLAIMS[1], "", ""),
+    ("foreign", CLAIMS[2], "exported-", "tracker_|log_"),
+]
 # The section of Running.antt with the words for what a call gave, and the name that the result has in them.
 SECTION, NEXT = "-- WHAT THE CONTRACTS SAY", re.compile(r"-- [A-Z]{2,}")
 RESULTS = ("r", "written")
@@ -147,7 +152,8 @@ def faults_of_hypotheses(sources):
             place = words[word][1]
             result = given[place] if place is not None and place < len(given) else []
             if len(result) != 1 or result[0] not in spoken_of(words, conclusion):
-                found.append((one.file, one.head[0].number, f"{one.name} supposes {word} and says nothing of its result"))
+                told = f"{one.name} supposes {word} and says nothing of its result"
+                found.append((one.file, one.head[0].number, told))
     return found
 
 

@@ -38,7 +38,8 @@ def wrong_quotations(text, head, body):
     """Copies with a wrong quotation, in the same way; one has an apostrophe, one goes over two lines."""
     quotations = [said for _, said in index_of(text).quotations if len(said.split()) > 4]
     said = next(said for said in quotations if f"'{said}'" in head)
-    ends, unquoted = (said.split()[0], said.split()[-1]), f"no quotation of: {papers.folded(said)}"
+    first, *_, last = said.split()
+    unquoted = f"no quotation of: {papers.folded(said)}"
     owned = next(said for said in quotations if "' " in said and f"'{said}'" in head)
     wrapped = next(said for said in quotations if said not in head)
     copy = lambda old, new: head.replace(old, new) + "\nuse " + body
@@ -46,8 +47,8 @@ def wrong_quotations(text, head, body):
         ("a changed quotation", copy(f"'{said}'", f"'{said} not'"), f"not in the papers: {said} not"),
         ("a part of a word", copy(f"'{said}'", f"'{said[:-1]}'"), f"not in the papers: {said[:-1]}"),
         ("a sentence not quoted", copy(f"'{said}'", ""), unquoted),
-        ("a part left out without a mark", copy(f"'{said}'", f"'{ends[0]} {ends[1]}'"), f"not in the papers: {ends[0]}"),
-        ("a part left out", copy(f"'{said}'", f"'{ends[0]} [..] {ends[1]}'"), unquoted),
+        ("a part left out without a mark", copy(f"'{said}'", f"'{first} {last}'"), f"not in the papers: {first}"),
+        ("a part left out", copy(f"'{said}'", f"'{first} [..] {last}'"), unquoted),
         ("the last word left out", copy(f"'{said}'", f"'{said.rsplit(' ', 1)[0]}'"), unquoted),
         ("an apostrophe", copy(f"'{owned}'", f"'{owned} not'"), f"not in the papers: {owned} not"),
         ("a wrapped quotation", copy(wrapped.split()[-1] + "'", "not'"), f"not in the papers: {wrapped[:20]}"),
@@ -89,18 +90,18 @@ def wrong_ties(sources):
         ("one word for two contracts", tie, twice, size),
         ("an entry of another name", *copy(tie, "pub size-of-contract", "pub sizes-contract"), size),
         ("an entry in a comment", *copy(tie, "  pub size-of-contract", "  -- pub size-of-contract"), size),
-        ("an export of another name", *copy(exports, "pub exported-rank-", "pub rank-"), "no entry exported-rank-contract"),
+        ("an export of another name", *copy(exports, "pub exported-rank-", "pub rank-"), "no entry exported-rank-"),
     ]
 
 
 def wrong_heads(sources):
     """Copies with one hypothesis more for a whole section."""
     copy = lambda path, old, new: (path, sources.text(path).replace(old, new))
-    told, last = "has another head", "(run : Routine → Fun 𝓤) where"
+    told, last, calls = "has another head", "(run : Routine → Fun 𝓤) where", "(calls : List Call) where"
     return [
         ("one more for the contracts", *copy(CLAIMS[1], last, last[:-5] + "(no : ⊥) where"), told),
         ("one more for the exports", *copy(CLAIMS[2], last, last[:-5] + "\n    (no : ⊥) where"), told),
-        ("one more for the lists", *copy(CLAIMS[0], "(calls : List Call) where", "(calls : List Call) (no : ⊥) where"), told),
+        ("one more for the lists", *copy(CLAIMS[0], calls, calls[:-5] + "(no : ⊥) where"), told),
         ("one more for calls that run", *copy(CLAIMS[0], "calls s) where", "calls s) (no : ⊥) where"), told),
         ("a section more", CLAIMS[1], sources.text(CLAIMS[1]) + "\nmodule _ (no : ⊥) where\n  more : ⊥\n", told),
         ("a section within", CLAIMS[1], sources.text(CLAIMS[1]) + "\n  module _ (no : ⊥) where\n    more : ⊥\n", told),
@@ -117,7 +118,7 @@ def wrong_words(sources):
         ("a word that no contract has", RUNNING, more, "MoreGave is in no entry"),
         ("a word that an entry lost", CLAIMS[1], untied, "TagsGave is in no entry"),
         ("a word that no theorem has", CLAIMS[0], unsupposed, "StartGave is a hypothesis of no theorem"),
-        ("a word without a result", RUNNING, more.replace("MoreGave r = r", "MoreGave n = n"), "MoreGave has no result"),
+        ("a word without a result", RUNNING, more.replace("MoreGave r", "MoreGave n"), "MoreGave has no result"),
         ("no word", RUNNING, running.replace("WHAT THE CONTRACTS SAY", "What they say"), "no word under"),
     ]
 
@@ -133,7 +134,7 @@ def wrong_hypotheses(sources):
         ("nothing, in a pair", f"(r : Answered) (left : Storage) → ({start} × (n ≡ n)) → {does}", "StartGave"),
         ("the result in another hypothesis", f"(r : Tallied) → {tally}", "TallyAnswered"),
         ("the result beside it", f"((r : Answered) → {start} → {does}) × ((r : ℕ) → r ≡ r)", "StartGave"),
-        ("nothing of the output", "TallyAnswered bs lent out r → TallyWrote bs lent out written → Told r", "TallyWrote"),
+        ("nothing of the output", "TallyWrote bs lent out written → Told out", "TallyWrote"),
     ]
     return [(name, CLAIMS[0], theorem(said), f"one-more supposes {word}") for name, said, word in copies]
 

@@ -136,8 +136,9 @@
 --   at the repository's root says which crate is over which, and the proof of a function knows of those that it calls their contracts alone
 --
 -- PERMISSION
--- 'Document 001: a holder may be sent exactly if its tag set is part of at least one of its permitted sets': legal-rule, a-question-tells; over a list of calls
---   legal-exactly-if-flows-permit, policy-sets-are-those-given; of calls that run called-legal-exactly-if-flows-permit, called-policy-sets-are-those-given
+-- 'Document 001: a holder may be sent exactly if its tag set is part of at least one of its permitted sets': legal-rule, a-question-tells;
+--   over a list of calls legal-exactly-if-flows-permit, policy-sets-are-those-given; of calls that run
+--   called-legal-exactly-if-flows-permit, called-policy-sets-are-those-given
 -- 'The holder's own tag is compared like any other': legal-rule (every tag)
 -- 'With no permitted set the answer is no': without-policy-set-not-legal
 -- 'The same set may be added twice and takes two places': the-same-set-twice-takes-two-places
@@ -184,7 +185,8 @@
 --   a-refused-question-tells-nothing, reading-answers-by-the-table, reading-n-answers-by-the-table, writing-answers-10-exactly-if-it-does-not-fit; `unread`
 --   (eventlog/specs/Answer.antt), `refused`, `unwritten` (leb128/specs/Answer.antt)
 -- 'the book's small numbers come back as they went in (0 from starting)': refused-call-changes-nothing, refused-start-changes-nothing
--- 'and all lent memory keeps its content': the same, refused-rank-changes-nothing, writing-answers-10-exactly-if-it-does-not-fit, a-short-output-keeps-its-bytes
+-- 'and all lent memory keeps its content': the same, refused-rank-changes-nothing, writing-answers-10-exactly-if-it-does-not-fit,
+--   a-short-output-keeps-its-bytes
 -- 'The run over a whole log differs in this: it answers also the byte, counted from 0, at which the refused record begins,
 --   the events done and their gain, and the book is as after those events':
 --   replay-is-starting-and-calls, a-refused-event-ends-the-log, the-events-done-are-those-that-join; `Stops` (replay/specs/Laws.antt)
@@ -222,7 +224,8 @@
 -- 'If n can't be used only that line stands, with byte 0': the-text-without-n, the-program-refuses-n-by-the-table
 -- 'Longer input gives only `refused 10 at 16384`': the-text-of-long-input
 -- 'Document 000's Example 1, with holders src 0, se 1, p 2, r 3, d 4, is the input 5, 0 1 2 3, 0 2 0 1, 1 2, 0 3 1 2, 1 1,
---   1 3, 0 4 3 4, 1 4. The whole output': `samples-hold`, row 3 of `samples` (claims/specs/Samples.antt); run by the program itself, tally/stdin and tally/stdout
+--   1 3, 0 4 3 4, 1 4. The whole output': `samples-hold`, row 3 of `samples` (claims/specs/Samples.antt); run by the
+--   program itself, tally/stdin and tally/stdout
 --
 -- SAMPLES. Those marked P are rows of `samples`, which `samples-hold` computes (claims/specs/Samples.antt); the rows from the 16th on are not the paper's
 -- 'n 3, no event: sets {0}, {1}, {2}': row 1
@@ -249,7 +252,8 @@
 --   'A line marked (02) takes its form when that request lands': no statement on the product
 -- '"Take the 18 rows of table 2 of source document 000" (02): match on the call number with ranges chooses direction,
 --   two-way, or open and close in one step': no function; its place comes with request 7 of document 02
--- '"The gain of an event is a number in its answer": pairs added while spreading are counted and proved equal to the before and after difference': pairs-counted-are-the-gain
+-- '"The gain of an event is a number in its answer": pairs added while spreading are counted and proved equal to the
+--   before and after difference': pairs-counted-are-the-gain
 -- '"The spread stops at the first full pass over the open channels that adds no tag": passes over channels inside an outer
 --   loop that is left by a label when nothing is added': no theorem; `make_passes` (propagation/src/lib.rt)
 -- '"A tag set is a record of four 64-bit words": struct holding [u64; 4], passed and returned by value; union, subset and
@@ -270,16 +274,19 @@
 -- 'If a form is not available today, docs/DECISIONS.md says which form it is and what stands in for it': docs/DECISIONS.md at the root
 --
 -- AGREED BETWEEN LAB AND BUILDERS
--- 'The builders agree that every public call has a stated outcome, and that for each input it determines the answer and each byte and word lent, on refusal too': the contracts of
---   `start`, `enable`, `disable`, `add_policy`, `tags_of`, `size_of`, `is_legal`, `rank`, `replay` (tracker/src/lib.rt), `tally` (report/src/lib.rt);
+-- 'The builders agree that every public call has a stated outcome, and that for each input it determines the answer and each byte and
+--   word lent, on refusal too': the contracts of `start`, `enable`, `disable`, `add_policy`, `tags_of`, `size_of`, `is_legal`,
+--   `rank`, `replay` (tracker/src/lib.rt), `tally` (report/src/lib.rt);
 --   the-numbers-tell-replies-apart, the-numbers-tell-answers-apart; of the log `read_record`, `write_record`, `read_head`, `write_head` (eventlog/src/lib.rt),
 --   `record-reading-injective`, `head-reading-injective` (eventlog/specs/Laws.antt)
 -- 'The call's contract gives each result as equal to a definition; should these papers leave an answer free, it is named there, with
---   what holds of it': the same contracts, which leave none free: start-contract, enable-contract, disable-contract, add-policy-contract, tags-of-contract,
+--   what holds of it': the same contracts, which leave none free:
+--   start-contract, enable-contract, disable-contract, add-policy-contract, tags-of-contract,
 --   size-of-contract, is-legal-contract, rank-contract, replay-contract, tally-contract; what follows of the call that
 --   runs: what-start-does, what-enable-does, what-disable-does, what-add-policy-does, what-replay-does,
 --   what-tally-writes, what-tally-leaves
--- 'The lab will hold up against it: a book that calls every book unsound (demand 1, by the table)': state-is-judged, enable-answers-by-the-table, no-call-answers-9-or-12
+-- 'The lab will hold up against it: a book that calls every book unsound (demand 1, by the table)': state-is-judged,
+--   enable-answers-by-the-table, no-call-answers-9-or-12
 -- 'one that answers each holder's own tag for ever, or never changes (demands 2 and 3)': sets-are-flows, demand-3
 -- 'one that spreads at the first opening and later merely stores channels (2 and 3)': sets-after-an-enable, sets-are-flows, demand-3
 -- 'one with an invented gain (2, as gain is counted from its sets)': gain-is-counted, pairs-counted-are-the-gain
