@@ -16,7 +16,7 @@
 7. Every public function of tracker, report and foreign has the entry of its name in Tie.antt or Exports.antt.
 8. The sections of the claims have the heads that ties.py lists, and no other.
 9. Every word of Running.antt for what a call gave is in an entry of Tie.antt, and a hypothesis of a theorem of
-   Claims.antt; and behind such a hypothesis a theorem speaks of the call's result.
+   Claims.antt; behind such a hypothesis a theorem speaks of the call's result; and a theorem what-.. has one.
 The papers are in ../shared/papers beside the repository, or where the environment variable PAPERS says.
 """
 import os

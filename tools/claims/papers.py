@@ -29,8 +29,8 @@ class Papers:
 
     @functools.lru_cache(maxsize=None)
     def places(self, quotation):
-        """Where each part of a quotation stands, as whole words; [..] between two is for what is left out. A place is the
-        block, and from where to where in it; the first blocks are those of document 01."""
+        """Where each part of a quotation stands, as whole words; [..] between two is for what is left out. A place is
+        the block, and from where to where in it; the first blocks are those of document 01."""
         parts = [f"({re.escape(part.strip())})" for part in folded(quotation).split("[..]")]
         pattern = re.compile(r"(?<!\w)" + r"\b.*?\b".join(parts) + r"(?!\w)")
         found = [(k, match) for k, block in enumerate(self.blocks) for match in pattern.finditer(block)]

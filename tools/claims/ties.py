@@ -81,7 +81,8 @@ def place_of_result(clause):
 def faults_of_words(sources):
     """Words for what a call gave that have no result, or that no contract is stated in or no claim supposes."""
     words = gave(sources)
-    tied = {word for one in sources.file(CLAIMS[1]).declared for word in tokens(joined(one.head))}
+    entries = [one for one in sources.file(CLAIMS[1]).declared if one.name.endswith("-contract")]
+    tied = {word for one in entries for word in tokens(joined(one.head))}
     supposed = {word for one in sources.file(CLAIMS[0]).declared for word, _, _ in hypotheses(words, one)}
     found = [] if words else [(RUNNING, 1, f"no word under {SECTION[3:]}")]
     for word, (line, place) in words.items():
@@ -144,16 +145,38 @@ def spoken_of(words, conclusion):
     return found
 
 
+def bound_in(conclusion):
+    """The names that a conclusion binds itself: those between an opening bracket and a colon."""
+    found, names = set(), None
+    for word in conclusion:
+        if word in OPENING:
+            names = set()
+        elif word in CLOSING:
+            names = None
+        elif word == ":":
+            found |= names or set()
+        elif names is not None:
+            names.add(word)
+    return found
+
+
+def says_something(words, word, given, conclusion):
+    """Whether the result among these arguments of the word is a name that the conclusion speaks of."""
+    place = words[word][1]
+    result = given[place] if place is not None and place < len(given) else []
+    return len(result) == 1 and result[0] in spoken_of(words, conclusion) - bound_in(conclusion)
+
+
 def faults_of_hypotheses(sources):
-    """Theorems that suppose what a call gave, and behind that do not speak of the result."""
+    """Theorems that suppose what a call gave and do not speak of the result; and those on what a call does (what-..)
+    that suppose nothing of it."""
     words, found = gave(sources), []
     for one in sources.file(CLAIMS[0]).declared:
-        for word, given, conclusion in hypotheses(words, one):
-            place = words[word][1]
-            result = given[place] if place is not None and place < len(given) else []
-            if len(result) != 1 or result[0] not in spoken_of(words, conclusion):
-                told = f"{one.name} supposes {word} and says nothing of its result"
-                found.append((one.file, one.head[0].number, told))
+        supposed = hypotheses(words, one)
+        silent = [word for word, *rest in supposed if not says_something(words, word, *rest)]
+        told = [f"supposes {word} and says nothing of its result" for word in silent]
+        told += ["supposes of no call what it gave"] if one.name.startswith("what-") and not supposed else []
+        found += [(one.file, one.head[0].number, f"{one.name} {fault}") for fault in told]
     return found
 
 

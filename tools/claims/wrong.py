@@ -134,9 +134,12 @@ def wrong_hypotheses(sources):
         ("nothing, in a pair", f"(r : Answered) (left : Storage) → ({start} × (n ≡ n)) → {does}", "StartGave"),
         ("the result in another hypothesis", f"(r : Tallied) → {tally}", "TallyAnswered"),
         ("the result beside it", f"((r : Answered) → {start} → {does}) × ((r : ℕ) → r ≡ r)", "StartGave"),
+        ("another result of that name", f"(r : Answered) → {start} → (k r : ℕ) → r ≡ r", "StartGave"),
         ("nothing of the output", "TallyWrote bs lent out written → Told out", "TallyWrote"),
     ]
-    return [(name, CLAIMS[0], theorem(said), f"one-more supposes {word}") for name, said, word in copies]
+    found = [(name, CLAIMS[0], theorem(said), f"one-more supposes {word}") for name, said, word in copies]
+    nothing = f"{sources.text(CLAIMS[0])}\npub what-more-does : (n : ℕ) (lent : Storage) → {does}\n"
+    return found + [("no hypothesis on the call", CLAIMS[0], nothing, "what-more-does supposes of no call")]
 
 
 def copies(sources):
