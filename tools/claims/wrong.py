@@ -112,7 +112,7 @@ def wrong_words(sources):
     """Copies with a word for what a call gave that no contract or no claim has."""
     running, start = sources.text(RUNNING), "\nabbrev pub StartGave :"
     more = running.replace(start, f"\nabbrev pub MoreGave : ℕ → Type 0\nMoreGave r = r ≡ 0\n{start}")
-    untied = sources.text(CLAIMS[1]).replace("(TagsGave", "(Told")
+    untied = sources.text(CLAIMS[1]).replace("(TagsGave", "(Told") + "\nmore : State → ℕ → Tags → TagsGave s c r\n"
     unsupposed = re.sub(r"→ StartGave [^→]*→", "→", sources.text(CLAIMS[0]))
     return [
         ("a word that no contract has", RUNNING, more, "MoreGave is in no entry"),
@@ -133,7 +133,7 @@ def wrong_hypotheses(sources):
         ("nothing, behind a name", f"(r : Answered) (left : Storage) (gave : {start}) → {does}", "StartGave"),
         ("nothing, in a pair", f"(r : Answered) (left : Storage) → ({start} × (n ≡ n)) → {does}", "StartGave"),
         ("the result in another hypothesis", f"(r : Tallied) → {tally}", "TallyAnswered"),
-        ("the result beside it", f"((r : Answered) → {start} → {does}) × ((r : ℕ) → r ≡ r)", "StartGave"),
+        ("the result beside it", f"(r : Answered) → ({start} → {does}) × (r ≡ r)", "StartGave"),
         ("another result of that name", f"(r : Answered) → {start} → (k r : ℕ) → r ≡ r", "StartGave"),
         ("nothing of the output", "TallyWrote bs lent out written → Told out", "TallyWrote"),
     ]
