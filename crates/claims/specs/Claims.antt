@@ -996,21 +996,25 @@ what-is-true-of-a-definition-is-true-of-the-call = (
 )
 
 -- `start`: StartDoes gathers what is claimed of it (demand 1)
-pub what-start-does : (n : ℕ) (lent : Storage) (r : Answered) (left : Storage) → StartGave n lent r left → StartDoes n lent (leaving r left)
+pub what-start-does : (n : ℕ) (lent : Storage) (r : Answered) (left : Storage) → StartGave n lent r left
+    → StartDoes n lent (leaving r left)
 what-start-does n lent r left e = subst (StartDoes n lent) (sym e) (start-does n lent)
 
 -- `enable`: EnableDoes (demands 1 and 2)
-pub what-enable-does : (s : State) (f : Flow) (r : Answered) (left : Storage) → CallGave s (ask (enable f)) r left → EnableDoes s f (leaving r left)
+pub what-enable-does : (s : State) (f : Flow) (r : Answered) (left : Storage) → CallGave s (ask (enable f)) r left
+    → EnableDoes s f (leaving r left)
 unfolding outcomeOf
 what-enable-does s f r left e = subst (EnableDoes s f) (sym e) (enable-does s f)
 
 -- `disable`: DisableDoes (demands 1 and 2)
-pub what-disable-does : (s : State) (k : ℕ) (r : Answered) (left : Storage) → CallGave s (ask (disable k)) r left → DisableDoes s k (leaving r left)
+pub what-disable-does : (s : State) (k : ℕ) (r : Answered) (left : Storage) → CallGave s (ask (disable k)) r left
+    → DisableDoes s k (leaving r left)
 unfolding outcomeOf
 what-disable-does s k r left e = subst (DisableDoes s k) (sym e) (disable-does s k)
 
 -- `add_policy`: AddDoes (demand 1)
-pub what-add-policy-does : (s : State) (c : ℕ) (p : TagSet) (r : Answered) (left : Storage) → CallGave s (add c p) r left → AddDoes s c p (leaving r left)
+pub what-add-policy-does : (s : State) (c : ℕ) (p : TagSet) (r : Answered) (left : Storage) → CallGave s (add c p) r left
+    → AddDoes s c p (leaving r left)
 unfolding outcomeOf
 what-add-policy-does s c p r left e = subst (AddDoes s c p) (sym e) (add-does s c p)
 
@@ -1053,8 +1057,10 @@ the-numbers-tell-answers-apart =
 -- so of a replay that runs: it is starting and the calls of the events that its bytes hold and that join, or it changes nothing
 pub what-replay-does : (bs : List ℕ) (lent : Storage) (r : Replayed) (left : Storage) → ReplayGave bs lent r left
     → ((k : ℕ) → containersIn bs lent .refusal ≡ suc k
-    → running r left ≡ record { refusal = suc k; byte = 0; events = 0; gain = 0; state = record { header = record { containers = 0; count = 0; greatest = 0 }; storage = lent } })
-    × (IsBytes bs → containersIn bs lent .refusal ≡ 0 → (w : Replays bs (headAt bs .value) lent (running r left)) × (w .done ≡ doneOf bs))
+    → running r left
+    ≡ record { refusal = suc k; byte = 0; events = 0; gain = 0; state = record { header = record { containers = 0; count = 0; greatest = 0 }; storage = lent } })
+    × (IsBytes bs → containersIn bs lent .refusal ≡ 0
+    → (w : Replays bs (headAt bs .value) lent (running r left)) × (w .done ≡ doneOf bs))
 what-replay-does bs lent r left e = (
   λ k z. e ∙ replay-not-begun bs lent k z,
   λ are b.
@@ -1066,7 +1072,8 @@ what-replay-does bs lent r left e = (
 pub what-tally-writes : (bs lentTags lentPolicies lentCounts out : List ℕ) (r : Tallied) (written : List ℕ)
     → (let lent = withNewTable lentTags lentPolicies lentCounts in
     TallyAnswered bs lent out r → TallyWrote bs lent out written
-    → (length (textOf bs lent) ≤ length out → (writingOf (r .reply) ≡ wrote (length (textOf bs lent))) × (written ≡ textOf bs lent ++ drop (length (textOf bs lent)) out))
+    → (length (textOf bs lent) ≤ length out
+    → (writingOf (r .reply) ≡ wrote (length (textOf bs lent))) × (written ≡ textOf bs lent ++ drop (length (textOf bs lent)) out))
     × (length out < length (textOf bs lent) → (writingOf (r .reply) ≡ unwritten 10) × (written ≡ out)))
 what-tally-writes bs lentTags lentPolicies lentCounts out r written a o =
     let lent = withNewTable lentTags lentPolicies lentCounts in (
@@ -1078,9 +1085,11 @@ pub what-tally-leaves : (bs lentTags lentPolicies lentCounts : List ℕ) (r : Ta
     → (let lent = withNewTable lentTags lentPolicies lentCounts in
     TallyLeft bs lent r tags policies counts
     → (length bs ≤ 16384 → stateOf (r .header) tags policies counts (r .flows) ≡ replayOf bs lent .state)
-    × (16384 < length bs → stateOf (r .header) tags policies counts (r .flows) ≡ record { header = record { containers = 0; count = 0; greatest = 0 }; storage = lent }))
+    × (16384 < length bs → stateOf (r .header) tags policies counts (r .flows)
+    ≡ record { header = record { containers = 0; count = 0; greatest = 0 }; storage = lent }))
 what-tally-leaves bs lentTags lentPolicies lentCounts r tags policies counts s =
-    let lent = withNewTable lentTags lentPolicies lentCounts in (λ h. s ∙ left-of-replay bs lent h, λ h. s ∙ left-of-long-input bs lent h)
+    let lent = withNewTable lentTags lentPolicies lentCounts in
+    (λ h. s ∙ left-of-replay bs lent h, λ h. s ∙ left-of-long-input bs lent h)
 
 -- PROPAGATION runs in passes. One pass gives each container what it had, and what the sources of its edges had when the pass began
 pub a-pass-reads-the-sets-found : (n : ℕ) (es : List (ℕ × ℕ)) (ws : List ℕ) → 4 * n ≤ length ws → (c t : ℕ) → c < n
@@ -1137,7 +1146,8 @@ every-question-can-be-asked s c = (tags-given s c, size-given s c, legal-given s
 pub every-ranking-can-be-asked-for : (s : State) (out : List ℕ) → (r : Ranked) × RankGave s out r
 every-ranking-can-be-asked-for = rank-given
 
-pub every-replay-can-be-made : (bs : List ℕ) (lent : Storage) → IsBytes bs → (r : Replayed) × ReplayGave bs lent r (replayOf bs lent .state .storage)
+pub every-replay-can-be-made : (bs : List ℕ) (lent : Storage) → IsBytes bs
+    → (r : Replayed) × ReplayGave bs lent r (replayOf bs lent .state .storage)
 every-replay-can-be-made = replay-left
 
 pub every-tally-can-be-made : (bs tags policies counts out : List ℕ)
@@ -1214,7 +1224,8 @@ module _ (n : ℕ) (lent : Storage) (calls : List Call) (s : State) (made : Call
         λ r e. ap (λ (x : Asked Bool). x .refusal) e ∙ a .2,
       )
 
-  pub called-tags-are-flows : (c t : ℕ) → c < n → (r : Tags) → TagsGave s c r → (has (r .set) t ≡ true) ↔ Flows n (accepted n (eventsOf calls)) t c
+  pub called-tags-are-flows : (c t : ℕ) → c < n → (r : Tags) → TagsGave s c r
+      → (has (r .set) t ≡ true) ↔ Flows n (accepted n (eventsOf calls)) t c
   called-tags-are-flows c t l r e =
       let told : r .set ≡ setAt (s .storage .tags) c =
       ap (λ (x : Asked TagSet). x .value) e ∙ tags-told s c (answered c l .0) in
@@ -1242,7 +1253,8 @@ module _ (n : ℕ) (lent : Storage) (calls : List Call) (s : State) (made : Call
       (λ r e. e ∙ a, λ written e. e ∙ rank-done s out a ∙ all)
 
   -- the next policy set is accepted exactly if the container takes it
-  pub called-add-accepted-exactly-if-taken : (c : ℕ) (p : TagSet) (r : Answered) (left : Storage) → CallGave s (add c p) r left
+  pub called-add-accepted-exactly-if-taken : (c : ℕ) (p : TagSet) (r : Answered) (left : Storage)
+      → CallGave s (add c p) r left
       → (answerOf (r .reply) .refusal ≡ 0) ↔ (takes n c (givenTo n c [] calls) c p ≡ true)
   called-add-accepted-exactly-if-taken c p r left q =
       subst (λ (o : Outcome). (o .answer .refusal ≡ 0) ↔ (takes n c (givenTo n c [] calls) c p ≡ true)) (sym q)
