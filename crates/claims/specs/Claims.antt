@@ -31,14 +31,14 @@
 -- DEMAND 3: the runs of the accepted history, compared with the book: demand-3; of calls that run called-demand-3
 --
 -- THE FIRST LINES
--- 'The model is that of source document 000 (Rfblare, SEFM 2017), sections 3.1 and 3.2', 'Document 000 decides what a tag set holds': `Enabled*`, `Flows`,
---   `Execution` (model/specs/Model.antt); no-flow-is-missed, no-flow-is-invented
+-- 'The model is that of source document 000 (Rfblare, SEFM 2017), sections 3.1 and 3.2', 'Document 000 decides what a
+--   tag set holds': `Enabled*`, `Flows`, `Execution` (model/specs/Model.antt); no-flow-is-missed, no-flow-is-invented
 -- 'The permission rule is from source document 001': legal-rule
 -- 'This paper decides event numbers, limits and the log': no statement on the product; what it decides is below
 --
 -- WORDS
--- 'A holder is anything that holds DNA readings or data: tube, well, file, job memory, list (document 000: container)': no statement on the product, for which
---   a holder is a number below n
+-- 'A holder is anything that holds DNA readings or data: tube, well, file, job memory, list (document 000:
+--   container)': no statement on the product, for which a holder is a number below n
 -- 'A book has n holders, n from 1 to 256, numbered from 0': size-is-judged, every-question-is-answered, no-other-container-is-told
 -- 'Each holder's tag is its own number': start-makes-it-new, flows-of-no-event
 -- 'A channel (flow) goes from one holder to another and has a number from 1 to 4,294,967,295': enable-joins-exactly-if, greatest-is-greatest (from 1);
@@ -136,9 +136,9 @@
 --   at the repository's root says which crate is over which, and the proof of a function knows of those that it calls their contracts alone
 --
 -- PERMISSION
--- 'Document 001: a holder may be sent exactly if its tag set is part of at least one of its permitted sets': legal-rule, a-question-tells;
---   over a list of calls legal-exactly-if-flows-permit, policy-sets-are-those-given; of calls that run
---   called-legal-exactly-if-flows-permit, called-policy-sets-are-those-given
+-- 'Document 001: a holder may be sent exactly if its tag set is part of at least one of its permitted sets':
+--   legal-rule, a-question-tells; over a list of calls legal-exactly-if-flows-permit, policy-sets-are-those-given; of
+--   calls that run called-legal-exactly-if-flows-permit, called-policy-sets-are-those-given
 -- 'The holder's own tag is compared like any other': legal-rule (every tag)
 -- 'With no permitted set the answer is no': without-policy-set-not-legal
 -- 'The same set may be added twice and takes two places': the-same-set-twice-takes-two-places
@@ -185,11 +185,11 @@
 --   a-refused-question-tells-nothing, reading-answers-by-the-table, reading-n-answers-by-the-table, writing-answers-10-exactly-if-it-does-not-fit; `unread`
 --   (eventlog/specs/Answer.antt), `refused`, `unwritten` (leb128/specs/Answer.antt)
 -- 'the book's small numbers come back as they went in (0 from starting)': refused-call-changes-nothing, refused-start-changes-nothing
--- 'and all lent memory keeps its content': the same, refused-rank-changes-nothing, writing-answers-10-exactly-if-it-does-not-fit,
---   a-short-output-keeps-its-bytes
--- 'The run over a whole log differs in this: it answers also the byte, counted from 0, at which the refused record begins,
---   the events done and their gain, and the book is as after those events':
---   replay-is-starting-and-calls, a-refused-event-ends-the-log, the-events-done-are-those-that-join; `Stops` (replay/specs/Laws.antt)
+-- 'and all lent memory keeps its content': the same, refused-rank-changes-nothing,
+--   writing-answers-10-exactly-if-it-does-not-fit, a-short-output-keeps-its-bytes
+-- 'The run over a whole log differs in this: it answers also the byte, counted from 0, at which the refused record
+--   begins, the events done and their gain, and the book is as after those events': replay-is-starting-and-calls,
+--   a-refused-event-ends-the-log, the-events-done-are-those-that-join; `Stops` (replay/specs/Laws.antt)
 -- 'If its n or the storage is refused the byte and the small numbers are 0 and nothing is written': a-refused-n-changes-nothing, a-replay-begins-exactly-if
 -- 'A run that meets the end of the bytes between records is complete, and its number and byte are 0': an-accepted-log-is-complete,
 --   replay-is-starting-and-calls; `Completes` (replay/specs/Laws.antt)
@@ -223,9 +223,9 @@
 --   the-text-of-a-refused-replay
 -- 'If n can't be used only that line stands, with byte 0': the-text-without-n, the-program-refuses-n-by-the-table
 -- 'Longer input gives only `refused 10 at 16384`': the-text-of-long-input
--- 'Document 000's Example 1, with holders src 0, se 1, p 2, r 3, d 4, is the input 5, 0 1 2 3, 0 2 0 1, 1 2, 0 3 1 2, 1 1,
---   1 3, 0 4 3 4, 1 4. The whole output': `samples-hold`, row 3 of `samples` (claims/specs/Samples.antt); run by the
---   program itself, tally/stdin and tally/stdout
+-- 'Document 000's Example 1, with holders src 0, se 1, p 2, r 3, d 4, is the input 5, 0 1 2 3, 0 2 0 1, 1 2, 0 3 1 2,
+--   1 1, 1 3, 0 4 3 4, 1 4. The whole output': `samples-hold`, row 3 of `samples` (claims/specs/Samples.antt); run by
+--   the program itself, tally/stdin and tally/stdout
 --
 -- SAMPLES. Those marked P are rows of `samples`, which `samples-hold` computes (claims/specs/Samples.antt); the rows from the 16th on are not the paper's
 -- 'n 3, no event: sets {0}, {1}, {2}': row 1
@@ -243,48 +243,51 @@
 -- TRAPS OF THE BENCH, each with the edit that must fail
 -- 'Adding the from-set to the to-holder only, without going on: the example's holder 4 then lacks 0 and 1':
 --   sets-after-an-enable; outcome/must-fail/propagation_to_the_destination_only.edit
--- 'Taking the closure of all channels ever opened: too many tags': sets-after-an-enable, enabled-is-standing; model/must-fail/all_flows_ever_enabled.edit
+-- 'Taking the closure of all channels ever opened: too many tags': sets-after-an-enable, enabled-is-standing;
+--   model/must-fail/all_flows_ever_enabled.edit
 -- 'Dropping an edge at the first closing of two alike channels': enabled-is-standing; model/must-fail/disable_drops_alike_flows.edit
 -- 'Uniting the permitted sets before comparing': legal-rule; question/must-fail/policy_sets_united.edit
 --
 -- THE FORMS WE EXPECT are forms of the code: docs/DECISIONS.md at the root, under Forms of document 01
--- 'Each place below takes the form we name, from the start, even where the planning page would advise another', 'We read the code as well as the proofs',
---   'A line marked (02) takes its form when that request lands': no statement on the product
+-- 'Each place below takes the form we name, from the start, even where the planning page would advise another', 'We
+--   read the code as well as the proofs', 'A line marked (02) takes its form when that request lands': no statement
+--   on the product
 -- '"Take the 18 rows of table 2 of source document 000" (02): match on the call number with ranges chooses direction,
 --   two-way, or open and close in one step': no function; its place comes with request 7 of document 02
 -- '"The gain of an event is a number in its answer": pairs added while spreading are counted and proved equal to the
 --   before and after difference': pairs-counted-are-the-gain
--- '"The spread stops at the first full pass over the open channels that adds no tag": passes over channels inside an outer
---   loop that is left by a label when nothing is added': no theorem; `make_passes` (propagation/src/lib.rt)
--- '"A tag set is a record of four 64-bit words": struct holding [u64; 4], passed and returned by value; union, subset and
---   membership are its methods': no theorem; `TagSet`, `union`, `is_subset`, `contains` (tagset/src/lib.rt)
+-- '"The spread stops at the first full pass over the open channels that adds no tag": passes over channels inside an
+--   outer loop that is left by a label when nothing is added': no theorem; `make_passes` (propagation/src/lib.rt)
+-- '"A tag set is a record of four 64-bit words": struct holding [u64; 4], passed and returned by value; union, subset
+--   and membership are its methods': no theorem; `TagSet`, `union`, `is_subset`, `contains` (tagset/src/lib.rt)
 -- '"a field that can't be read ends the reading of its record": number reader's enum answer taken apart by let .. else,
 --   refusal returned directly': no theorem; `read_record`, `read_enable`, `read_disable` (eventlog/src/lib.rt)
--- '"The size of a tag set is the number of ones in its words": count of ones on each word, summed and proved equal to the
---   count of set members': size-is-the-number-of-ones
+-- '"The size of a tag set is the number of ones in its words": count of ones on each word, summed and proved equal to
+--   the count of set members': size-is-the-number-of-ones
 -- '"built over numbers and tag sets, and use only their stated behaviour": number and set crates below, log reader and
 --   tracker above, the program on top': no theorem; crates.txt at the root
--- 'The following places have long proofs done by hand, but they too take the named form once the core is complete', '"The open
---   channels stand in a lent table of 512 records": slice of channel structs for append, shift down and one scan, kept thin,
---   after the core is proved': no theorem; `load`, `store` (flowslice/src/lib.rt)
+-- 'The following places have long proofs done by hand, but they too take the named form once the core is complete',
+--   '"The open channels stand in a lent table of 512 records": slice of channel structs for append, shift down and
+--   one scan, kept thin, after the core is proved': no theorem; `load`, `store` (flowslice/src/lib.rt)
 -- 'For every case of an enum answer, a definition gives this paper's number and values': `answerOf` (calls/specs/Replies.antt), `tagsReply`, `sizeReply`,
 --   `legalReply` (question/specs/Replies.antt), `rankedReply` (ranking/specs/Replies.antt), `endingOf`, `containersOf` (replay/specs/Replies.antt),
 --   `readingOf`, `writingOf` (leb128/specs/Answer.antt), `recordReadingOf`, `headReadingOf` (eventlog/specs/Answer.antt)
 -- 'The promises use that definition': no theorem, but each contract that answers such an enum: those named next
--- 'If a form is not available today, docs/DECISIONS.md says which form it is and what stands in for it': docs/DECISIONS.md at the root
+-- 'If a form is not available today, docs/DECISIONS.md says which form it is and what stands in for it':
+--   docs/DECISIONS.md at the root
 --
 -- AGREED BETWEEN LAB AND BUILDERS
--- 'The builders agree that every public call has a stated outcome, and that for each input it determines the answer and each byte and
---   word lent, on refusal too': the contracts of `start`, `enable`, `disable`, `add_policy`, `tags_of`, `size_of`, `is_legal`,
---   `rank`, `replay` (tracker/src/lib.rt), `tally` (report/src/lib.rt);
---   the-numbers-tell-replies-apart, the-numbers-tell-answers-apart; of the log `read_record`, `write_record`, `read_head`, `write_head` (eventlog/src/lib.rt),
---   `record-reading-injective`, `head-reading-injective` (eventlog/specs/Laws.antt)
--- 'The call's contract gives each result as equal to a definition; should these papers leave an answer free, it is named there, with
---   what holds of it': the same contracts, which leave none free:
---   start-contract, enable-contract, disable-contract, add-policy-contract, tags-of-contract,
---   size-of-contract, is-legal-contract, rank-contract, replay-contract, tally-contract; what follows of the call that
---   runs: what-start-does, what-enable-does, what-disable-does, what-add-policy-does, what-replay-does,
---   what-tally-writes, what-tally-leaves
+-- 'The builders agree that every public call has a stated outcome, and that for each input it determines the answer
+--   and each byte and word lent, on refusal too': the contracts of `start`, `enable`, `disable`, `add_policy`,
+--   `tags_of`, `size_of`, `is_legal`, `rank`, `replay` (tracker/src/lib.rt), `tally` (report/src/lib.rt);
+--   the-numbers-tell-replies-apart, the-numbers-tell-answers-apart; of the log `read_record`, `write_record`,
+--   `read_head`, `write_head` (eventlog/src/lib.rt), `record-reading-injective`, `head-reading-injective`
+--   (eventlog/specs/Laws.antt)
+-- 'The call's contract gives each result as equal to a definition; should these papers leave an answer free, it is
+--   named there, with what holds of it': the same contracts, which leave none free: start-contract, enable-contract,
+--   disable-contract, add-policy-contract, tags-of-contract, size-of-contract, is-legal-contract, rank-contract,
+--   replay-contract, tally-contract; what follows of the call that runs: what-start-does, what-enable-does,
+--   what-disable-does, what-add-policy-does, what-replay-does, what-tally-writes, what-tally-leaves
 -- 'The lab will hold up against it: a book that calls every book unsound (demand 1, by the table)': state-is-judged,
 --   enable-answers-by-the-table, no-call-answers-9-or-12
 -- 'one that answers each holder's own tag for ever, or never changes (demands 2 and 3)': sets-are-flows, demand-3
@@ -294,15 +297,16 @@
 -- 'The samples marked P are checked as theorems, all as rows of one table that a single proof covers': `samples-hold` (claims/specs/Samples.antt)
 -- 'The rest, and the paper's own tables, a program runs and compares': no theorem; samples/stdin, samples/stdout
 --
--- OF NO SENTENCE, but of what the sentences rest on. `apply_enable`, `apply_disable` (calls/src/lib.rt), by which a replay runs, judge no state and are no calls
---   of the paper: apply-enable-answers-the-first, refused-apply-enable-changes-nothing, apply-disable-answers-the-first,
---   refused-apply-disable-changes-nothing, apply-enable-is-enable, apply-disable-is-disable.
---   `rank_sets` (ranking/src/lib.rt), by which the text is made, judges none either: rank-sets-writes-the-ranking-or-nothing.
---   The exported functions (foreign/src/lib.rt) are the calls and the reader and writer once more, for other languages; their
---   contracts are equations with the same definitions: exported-start-contract, exported-enable-contract,
---   exported-disable-contract, exported-add-policy-contract, exported-tags-of-contract, exported-size-of-contract,
---   exported-is-legal-contract, exported-rank-contract, exported-replay-contract, exported-decode-contract,
---   exported-encode-contract, exported-read-head-contract, exported-write-head-contract, exported-read-record-contract,
+-- OF NO SENTENCE, but of what the sentences rest on. `apply_enable`, `apply_disable` (calls/src/lib.rt), by which a
+--   replay runs, judge no state and are no calls of the paper: apply-enable-answers-the-first,
+--   refused-apply-enable-changes-nothing, apply-disable-answers-the-first, refused-apply-disable-changes-nothing,
+--   apply-enable-is-enable, apply-disable-is-disable. `rank_sets` (ranking/src/lib.rt), by which the text is made,
+--   judges none either: rank-sets-writes-the-ranking-or-nothing. The exported functions (foreign/src/lib.rt) are the
+--   calls and the reader and writer once more, for other languages; their contracts are equations with the same
+--   definitions: exported-start-contract, exported-enable-contract, exported-disable-contract,
+--   exported-add-policy-contract, exported-tags-of-contract, exported-size-of-contract, exported-is-legal-contract,
+--   exported-rank-contract, exported-replay-contract, exported-decode-contract, exported-encode-contract,
+--   exported-read-head-contract, exported-write-head-contract, exported-read-record-contract,
 --   exported-write-enable-contract, exported-write-disable-contract, exported-enable-len-contract,
 --   exported-disable-len-contract, exported-tally-text-contract; a list of exported calls is one of calls:
 --   an-exported-start-counts-as-one, an-exported-call-counts-as-one. The words of these and of the contracts above:
