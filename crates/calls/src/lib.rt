@@ -1,6 +1,8 @@
 // The cores of starting, enabling, disabling and adding a policy set, on plain data: the flow table is an array, with the number of records that were lent.
 // The public calls, which are lent the table, are in the crate tracker; replay goes by `apply_enable` and `apply_disable`.
 // What each answers and leaves stands in outcome/specs/Outcome.antt.
+#![tactic(auto)]
+
 ghost use Rattle.std.specs.Prelude.{◌≡◌, List, ℕ, ◌+◌, ◌*◌, ◌≤◌, length, take, drop};
 ghost use Rattle.flowslice.specs.Slice.{stored_in};
 ghost use Rattle.flowtable.specs.FlowTable.{place_of};
@@ -18,7 +20,7 @@ use tagset::TagSet;
 use validity::Judgement;
 
 // What a call answers: that it is accepted, with its gain, or the refusal (specs/Replies.antt has the paper's numbers).
-#[derive(Drop)]
+#[derive(Clone, Copy)]
 pub enum Reply {
     Accepted(u32),
     NoSuchContainer,
@@ -32,7 +34,7 @@ pub enum Reply {
 }
 
 // What a call gives back: its answer and the header.
-#[derive(Drop)]
+#[derive(Clone, Copy)]
 pub struct Answered {
     pub reply: Reply,
     pub header: Header,

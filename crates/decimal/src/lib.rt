@@ -1,4 +1,6 @@
 // Numbers as decimal text in a lent output (specs/Decimal.antt). Every function answers for all numbers, positions and outputs.
+#![tactic(auto)]
+
 ghost use Rattle.std.specs.Prelude.{◌≡◌, length};
 ghost use Rattle.leb128.specs.Number.{write_at};
 ghost use Rattle.decimal.specs.Decimal.{decimal_of};

@@ -1,4 +1,6 @@
 // The flow table as a lent slice, of any length and content: its first 512 records loaded, and records stored in it (specs/Slice.antt).
+#![tactic(auto)]
+
 ghost use Rattle.std.specs.Prelude.{◌≡◌, min};
 ghost use Rattle.flowslice.specs.Slice.{loaded_from, stored_in};
 

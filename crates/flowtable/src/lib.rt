@@ -1,11 +1,13 @@
 // The table of enabled flows, 512 records by value: find, append, remove. Every function answers for any count, place and content.
+#![tactic(auto)]
+
 ghost use Rattle.std.specs.Prelude.{◌≡◌, set, take};
 ghost use Rattle.flowtable.specs.FlowTable.{found_in, removed_at};
 
 use model::Flow;
 
 // Where a flow stands in the table.
-#[derive(Drop)]
+#[derive(Clone, Copy)]
 pub enum Found {
     At(u32),
     Absent,

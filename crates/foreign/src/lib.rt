@@ -2,6 +2,8 @@
 // and records. Each does what the function that its comment names does, and nothing else; an enum's case is said by the paper's number.
 // A slice is a pointer and a length. What no contract here can say, a caller in C owes: each pointer is aligned and not null, its elements are there for the whole
 // call, and what is lent to be written overlaps nothing else. evidence/product and evidence/interface have the same records in Rust.
+#![tactic(auto)]
+
 ghost use Rattle.std.specs.Prelude.{◌≡◌, min, length};
 ghost use Rattle.leb128.specs.Answer.{reading_of, writing_of};
 ghost use Rattle.leb128.specs.Number.{form_of, decode_at, encode_at, write_at};
@@ -32,7 +34,7 @@ use tagset::TagSet;
 
 // What an event, a start or adding a policy set answers: the refusal's number or 0, the gain, the header.
 #[repr(C)]
-#[derive(Drop)]
+#[derive(Clone, Copy)]
 pub struct CallAnswer {
     pub refusal: u32,
     pub gain: u32,
@@ -41,7 +43,7 @@ pub struct CallAnswer {
 
 // What the question for a set answers.
 #[repr(C)]
-#[derive(Drop)]
+#[derive(Clone, Copy)]
 pub struct SetAnswer {
     pub refusal: u32,
     pub set: TagSet,
@@ -49,7 +51,7 @@ pub struct SetAnswer {
 
 // What the question for a size answers.
 #[repr(C)]
-#[derive(Drop)]
+#[derive(Clone, Copy)]
 pub struct SizeAnswer {
     pub refusal: u32,
     pub size: u32,
@@ -57,7 +59,7 @@ pub struct SizeAnswer {
 
 // What the question whether a container may be sent answers.
 #[repr(C)]
-#[derive(Drop)]
+#[derive(Clone, Copy)]
 pub struct LegalAnswer {
     pub refusal: u32,
     pub legal: bool,
@@ -65,7 +67,7 @@ pub struct LegalAnswer {
 
 // What a replay answers: the refusal's number or 0, the byte of the refused record, the events done, their gain, the header.
 #[repr(C)]
-#[derive(Drop)]
+#[derive(Clone, Copy)]
 pub struct ReplayAnswer {
     pub refusal: u32,
     pub byte: usize,
@@ -76,7 +78,7 @@ pub struct ReplayAnswer {
 
 // What reading a number answers: the refusal's number or 0, the value, the position after it.
 #[repr(C)]
-#[derive(Drop)]
+#[derive(Clone, Copy)]
 pub struct NumberAnswer {
     pub refusal: u32,
     pub value: u64,
@@ -85,7 +87,7 @@ pub struct NumberAnswer {
 
 // What writing answers: the refusal's number or 0, the position after what was written.
 #[repr(C)]
-#[derive(Drop)]
+#[derive(Clone, Copy)]
 pub struct WriteAnswer {
     pub refusal: u32,
     pub next: usize,
@@ -94,7 +96,7 @@ pub struct WriteAnswer {
 // What reading a record answers: the refusal's number or 0, the kind (0 an enable, 1 a disable), the flow (of a disable only its number), the position
 // after the record.
 #[repr(C)]
-#[derive(Drop)]
+#[derive(Clone, Copy)]
 pub struct RecordAnswer {
     pub refusal: u32,
     pub kind: u32,

@@ -1,7 +1,8 @@
 // A flow of data from one container to another. What is true of containers, flows and executions stands in specs/.
+#![tactic(auto)]
 
 #[repr(C)]
-#[derive(Drop)]
+#[derive(Clone, Copy)]
 pub struct Flow {
     pub number: u32,
     pub from: u32,

@@ -1,1 +1,2 @@
 // What each call of the tracker answers and leaves: specs/Outcome.antt. The code is in the crate calls, the public calls in tracker.
+#![tactic(auto)]

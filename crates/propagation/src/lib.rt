@@ -1,4 +1,6 @@
 // Tags carried along the enabled flows (document 01: the spread), pass by pass, up to the first pass that adds none.
+#![tactic(auto)]
+
 ghost use Rattle.std.specs.Prelude.{◌≡◌, ◌++◌, ℕ, ◌*◌, ◌≤◌, length, take, drop};
 ghost use Rattle.model.specs.Model.{edges, edges_of};
 ghost use Rattle.propagation.specs.Found.{Found};
@@ -7,7 +9,7 @@ ghost use Rattle.propagation.specs.Pass.{carried, new_tags, carried_all, new_in_
 use model::Flow;
 
 // The (tag, container) pairs that propagation added, and how many passes it made, the last included.
-#[derive(Drop)]
+#[derive(Clone, Copy)]
 pub struct Propagated {
     pub gain: u32,
     pub passes: u32,

@@ -1,6 +1,8 @@
 // The cores of the questions about a container (its tag set, the set's size, whether it may be sent), on plain data; the public calls are in the crate tracker.
 // What each answers stands in specs/Question.antt.
 // A question changes nothing, and answers for every content and length of lent storage. The flow table is the first `lent` of the records.
+#![tactic(auto)]
+
 ghost use Rattle.std.specs.Prelude.{◌≡◌, ◌+◌, ◌*◌, ◌≤◌, length, take};
 ghost use Rattle.model.specs.Reach.{tabulate};
 ghost use Rattle.tagset.specs.Set.{empty_set, subset_of};
@@ -14,7 +16,7 @@ use tagset::TagSet;
 use validity::Judgement;
 
 // Whether a question is refused, and why (specs/Replies.antt has the paper's numbers).
-#[derive(Drop)]
+#[derive(Clone, Copy)]
 pub enum Asking {
     Fine,
     NoSuchContainer,
@@ -23,14 +25,14 @@ pub enum Asking {
 }
 
 // What the question for a set answers: the container's tag set, empty where the question is refused.
-#[derive(Drop)]
+#[derive(Clone, Copy)]
 pub struct Tags {
     pub asking: Asking,
     pub set: TagSet,
 }
 
 // How many tags the container has, or the refusal.
-#[derive(Drop)]
+#[derive(Clone, Copy)]
 pub enum Size {
     Is(u32),
     NoSuchContainer,
@@ -39,7 +41,7 @@ pub enum Size {
 }
 
 // Whether the container may be sent, or the refusal.
-#[derive(Drop)]
+#[derive(Clone, Copy)]
 pub enum Legal {
     Is(bool),
     NoSuchContainer,

@@ -1,6 +1,8 @@
 // The text of `tally`: an input run in lent lists and a flow table of its own, and its report in a lent output.
 // What the text is stands in tallytext/specs/Text.antt.
 // The private functions take positions up to some millions, far past the end of every text (264,256 bytes): so no sum of a position wraps.
+#![tactic(auto)]
+
 ghost use Rattle.std.specs.Prelude.{◌≡◌, [], ◌∷◌, ◌++◌, ℕ, ◌*◌, ◌≤◌, ◌<◌, length, get_or, take, replicate};
 ghost use Rattle.leb128.specs.Answer.{writing_of};
 ghost use Rattle.leb128.specs.Number.{write_at};
@@ -15,7 +17,7 @@ use state::Header;
 use tagset::TagSet;
 
 // What a run of `tally` gives back: the length of its text or that the output is too short, the header and the flow table.
-#[derive(Drop)]
+#[derive(Clone, Copy)]
 pub struct Tallied {
     pub reply: Encoded,
     pub header: Header,

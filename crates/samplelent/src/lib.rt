@@ -1,4 +1,6 @@
 // The public calls on a flow table that is lent to them: 513 records of any content.
+#![tactic(auto)]
+
 use calls::Answered;
 use model::Flow;
 use samplecalls::Now;

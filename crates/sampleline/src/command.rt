@@ -4,7 +4,7 @@ ghost use Rattle.std.specs.Prelude.{◌≤◌, length};
 use crate::{byte_at, find};
 
 // Each with its word, in the order of the words; then a line that is no command, and one whose word there is not.
-#[derive(Drop)]
+#[derive(Clone, Copy)]
 pub enum Command {
     Add,
     Begin,

@@ -1,4 +1,6 @@
 // Lines of a script, and what is printed of them. A line is a word, and behind it numbers with single spaces between them.
+#![tactic(auto)]
+
 pub mod command;
 pub mod print;
 

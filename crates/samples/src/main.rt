@@ -1,4 +1,6 @@
 // Runs a script: prints each of its lines, and behind it what the library answers. The script is the file stdin, what must be printed the file stdout.
+#![tactic(auto)]
+
 ghost use Rattle.std.specs.Prelude.{◌≤◌, length};
 
 use model::Flow;

@@ -1,7 +1,8 @@
 // The tracker's small numbers. What its lent storage holds, and when a state is valid, stands in specs/.
+#![tactic(auto)]
 
 #[repr(C)]
-#[derive(Drop)]
+#[derive(Clone, Copy)]
 pub struct Header {
     pub containers: u32,
     pub count: u32,

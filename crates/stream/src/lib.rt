@@ -3,11 +3,13 @@
 //
 // Which bytes a read brings and a write takes no contract can say: the C library's functions are assumed. That errno
 // has the reason of the call that failed just before is relied on, and no proof rests on it.
+#![tactic(auto)]
+
 ghost use Rattle.std.specs.Prelude.{◌≡◌, map, ◌-◌, ◌<◌, length, take};
 ghost use Rattle.stream.specs.Stream.{step_of, visible_byte, Moves, Within};
 
 // What one read says.
-#[derive(Drop)]
+#[derive(Clone, Copy)]
 enum Step {
     // So many bytes came.
     More(usize),
@@ -20,7 +22,7 @@ enum Step {
 }
 
 // What reading to the end gives.
-#[derive(Drop)]
+#[derive(Clone, Copy)]
 pub enum Input {
     // The end was seen, after so many bytes.
     Whole(usize),

@@ -1,9 +1,11 @@
 // Sets of tags below 256, by value: tag t is bit t % 64 of word t / 64.
+#![tactic(auto)]
+
 ghost use Rattle.std.specs.Prelude.{◌≡◌, ◌-◌};
 ghost use Rattle.tagset.specs.Set.{has, empty_set, single_of, low_ones, below_of, union_of, intersection_of, subset_of, same_of, exceeds_of, size_of};
 
 #[repr(C)]
-#[derive(Drop)]
+#[derive(Clone, Copy)]
 pub struct TagSet {
     pub words: [u64; 4],
 }

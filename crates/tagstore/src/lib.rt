@@ -1,5 +1,7 @@
 // Tag sets in lent words, four words a set: a set read, a set written, and what starting writes.
 // Every function answers for any number of words: out of range it reads the empty set, and writes nothing.
+#![tactic(auto)]
+
 ghost use Rattle.std.specs.Prelude.{◌≡◌, ◌/◌, min, length};
 ghost use Rattle.tagset.specs.Set.{single_of};
 ghost use Rattle.state.specs.State.{with_sets};

@@ -1,5 +1,7 @@
 // The program: reads a log to its end, from standard input or from the file that is named, and prints its report. If a
 // read fails nothing is printed: the report of a part looks just like the report of a whole log.
+#![tactic(auto)]
+
 ghost use Rattle.std.specs.Prelude.{◌≡◌, ◌≤◌, length, take};
 ghost use Rattle.io.specs.Counts.{IsPrefixLen};
 ghost use Rattle.stream.specs.Stream.{Within};
@@ -24,7 +26,7 @@ fn main() {
 }
 
 // What the argument asks for.
-#[derive(Drop)]
+#[derive(Clone, Copy)]
 enum Asked {
     Help,
     File,

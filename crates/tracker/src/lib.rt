@@ -1,6 +1,8 @@
 // The product's calls. Lent are four words of tags a container, sixteen words of policy sets, one count of these and 512 records of flows, each list of any
 // length and content. Each call loads the records by one scan, has the work done on plain data, and stores the records that may have changed.
 // What a call answers and leaves stands in Outcome.antt of outcome, Question.antt of question, Ranking.antt of ranking, Replay.antt of replay.
+#![tactic(auto)]
+
 ghost use Rattle.std.specs.Prelude.{◌≡◌};
 ghost use Rattle.state.specs.State.{storage_of, state_of};
 ghost use Rattle.outcome.specs.Outcome.{start_of, enable_of, disable_of, add_of};

@@ -1,1 +1,2 @@
 // Laws of truth values: specs/ only.
+#![tactic(auto)]

@@ -1,4 +1,6 @@
 // Whether a state can be used: storage long enough (refusal 9), content valid (refusal 12). Every other refusal comes after these two.
+#![tactic(auto)]
+
 ghost use Rattle.std.specs.Prelude.{◌≡◌, false, ◌&&◌, ◌+◌, ◌*◌, ◌≤◌, length, take};
 ghost use Rattle.refusal.specs.Order.{first_of};
 ghost use Rattle.tagset.specs.Set.{subset_of};
@@ -12,7 +14,7 @@ use state::Header;
 use tagset::TagSet;
 
 // What is said of a state. BadSize is the paper's 9, InvalidState its 12, 'unsound book'.
-#[derive(Drop)]
+#[derive(Clone, Copy)]
 pub enum Judgement {
     Usable,
     BadSize,
