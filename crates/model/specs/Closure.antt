@@ -3,7 +3,8 @@
 use Rattle.std.specs.Prelude.{◌≡◌, refl, ◌⊎◌, ◌↔◌, Bool, true, List, [], ◌∷◌, ℕ, zero, suc, ◌<◌, eqb, length, get_or}
 use Rattle.std.proofs.Math.Path.{sym}
 use Rattle.std.proofs.Common.{ap, ◌∙◌, subst, inl, inr, ⊎_elim, le_of_suc-le-suc, not-suc-le-zero, arith, eqb-true, eq-eqb}
-use Rattle.std.proofs.Math.Logic.{Iff·rfl, by_cases}
+use Rattle.std.proofs.Math.Logic.{by_cases}
+use Rattle.std.proofs.Math.Logic.Iff
 use Rattle.std.proofs.Math.Bool.{or-true}
 use Rattle.std.proofs.lemmas.Bool.{false≢true}
 use mathlib.Core.List.Memᴰ
@@ -90,12 +91,12 @@ module _ (n : ℕ) (es : List (ℕ × ℕ)) where
   -- before the first round, a container is reached from itself and over one way
   via-zero : (a b : ℕ) → Reached zero a b ↔ ((a < n) × (b < n) × ((eqb a b ≡ true) ⊎ (is_edge es a b ≡ true)))
   unfolding reach_via
-  via-zero a b = simp (matrix-true, or-iff) Iff·rfl
+  via-zero a b = simp (matrix-true, or-iff) Iff.rfl
 
   -- round k adds what is reached over k
   via-suc : (k a b : ℕ) → Reached (suc k) a b ↔ ((a < n) × (b < n) × Round k a b)
   unfolding reach_via
-  via-suc k a b = simp (matrix-true, or-and-iff) Iff·rfl
+  via-suc k a b = simp (matrix-true, or-and-iff) Iff.rfl
 
   -- what is reached after k rounds is below n, and so is what it is reached from
   via-inside : (k a b : ℕ) → Reached k a b → (a < n) × (b < n)

@@ -110,6 +110,7 @@ occurs-cases (before e' o) = inr o
 -- every number accepted is at least 1 and at most the greatest, so 'an opening's number is greater than that of every opening accepted before'
 pub numbers-rise : {n : ℕ} {h : History} → Accepted n h → (f : Flow) → Occurs (enable f) h → (1 ≤ f.number) × (f.number ≤ greatest h)
 unfolding greatest
+numbers-rise {n = n} none f o = elim o [ ]
 numbers-rise {n} (more {h} a (enable g) q) f o = go (numbers-rise a f) ((enable-joins n h g).0 q).above (occurs-cases o)
   where
     go : (Occurs (enable f) h → (1 ≤ f.number) × (f.number ≤ greatest h)) → greatest h < g.number → (enable f ≡ enable g) ⊎ Occurs (enable f) h

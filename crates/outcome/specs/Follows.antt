@@ -4,7 +4,7 @@ use Rattle.std.proofs.Math.Path.{refl, ap, ap₂}
 use Rattle.std.proofs.Common.{sym, ◌∙◌, subst, arith, eqb-true, eq-eqb}
 use Rattle.std.proofs.lemmas.Bool.{false≢true}
 use mathlib.Core.List.{List, [], ◌∷◌, ◌++◌}
-use Rattle.std.proofs.Math.Logic.{Iff·rfl}
+use Rattle.std.proofs.Math.Logic.Iff
 use mathlib.Mathlib.Logic.Relation.{ReflTransGenᴰ}
 use Rattle.std.proofs.Math.ListN.{take}
 use borrow.Table.Steps.{cases}
@@ -36,7 +36,7 @@ pub record Follows (n : ℕ) (h : History) (s : State) : Type 0 where
 -- the configuration has the stored tags of the containers below n
 pub configuration-has : (s : State) (c t : ℕ) → (configuration_of s c t ≡ true) ↔ ((c < s.header.containers) × (has (set_at s.storage.tags c) t ≡ true))
 unfolding configuration_of
-configuration-has s c t = simp (and-iff, lt_iff) Iff·rfl
+configuration-has s c t = simp (and-iff, lt_iff) Iff.rfl
 
 -- a started tracker follows the empty history
 pub start-follows : (n : ℕ) (lent : Storage) → IsSized n lent → Follows n empty (started n lent)

@@ -1,6 +1,6 @@
 -- Accepted calls: which they are, what they leave, and document 01's sentence on the sets after them. Assumes nothing.
 use Rattle.std.specs.Prelude.{◌≡◌, refl, true, List, [], ◌∷◌, ◌++◌, ◌↔◌, ◌≢◌, ℕ, ◌*◌, ◌<◌, eqb, length, get_or}
-use Rattle.std.proofs.Math.Logic.{Iff·rfl, Iff·symm, Iff·trans}
+use Rattle.std.proofs.Math.Logic.Iff
 use mathlib.Mathlib.Logic.Relation.{ReflTransGenᴰ}
 use Rattle.std.proofs.Common.{arith}
 use Rattle.refusal.specs.Order.{first_of}
@@ -131,7 +131,7 @@ unfolding changed
 changed-sentence s fs greatest tags u same b t l =
     let flows : flows_of (changed s fs greatest tags) ≡ fs = changed-flows s fs greatest tags in
     let within : Within s.header.containers (edges_of fs) = rw flows at (flows-within (changed s fs greatest tags) u.valid) in
-    rw flows (Iff·trans (same b t l) (propagated-sentence s.header.containers fs s.storage.tags within b t l))
+    rw flows (Iff.trans (same b t l) (propagated-sentence s.header.containers fs s.storage.tags within b t l))
 
 -- so it holds of every accepted enable, and of every accepted disable
 pub enable-sentence : (s : State) (f : Flow) → (outcome_of s (ask (enable f))).answer.refusal ≡ 0 → Sentence s (outcome_of s (ask (enable f))).state
@@ -139,14 +139,14 @@ unfolding enabling
 enable-sentence s f a =
     rw (enable-leaves s f a)
     (changed-sentence s (flows_of s ++ (f ∷ [])) f.number (propagated s.header.containers (flows_of s ++ (f ∷ [])) s.storage.tags)
-    (rw (enable-leaves s f a) at (enable-leaves-usable s f a)) (λ b t l. Iff·rfl))
+    (rw (enable-leaves s f a) at (enable-leaves-usable s f a)) (λ b t l. Iff.rfl))
 
 pub disable-sentence : (s : State) (k : ℕ) → (outcome_of s (ask (disable k))).answer.refusal ≡ 0 → Sentence s (outcome_of s (ask (disable k))).state
 unfolding disabling
 disable-sentence s k a =
     rw (disable-leaves s k a)
     (changed-sentence s (without k (flows_of s)) s.header.greatest s.storage.tags (rw (disable-leaves s k a) at (disable-leaves-usable s k a))
-    (λ b t l. Iff·symm (settled s (without k (flows_of s)) ((disable-accepted s k).0 a).0 (λ f. without-part k (flows_of s)) b t l)))
+    (λ b t l. Iff.symm (settled s (without k (flows_of s)) ((disable-accepted s k).0 a).0 (λ f. without-part k (flows_of s)) b t l)))
 
 -- WHAT ELSE THEY LEAVE
 

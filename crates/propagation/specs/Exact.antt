@@ -5,7 +5,8 @@ use Rattle.std.proofs.Common.{sym, ◌∙◌, le_of_suc-le-suc, eq-or-lt_of_le, 
 use Rattle.std.proofs.Math.Path.{ap, subst}
 use Rattle.std.proofs.Math.Bool.{or-false}
 use Rattle.std.proofs.lemmas.Bool.{false≢true}
-use Rattle.std.proofs.Math.Logic.{inl, inr, Iff·rfl, ⊎_elim}
+use Rattle.std.proofs.Math.Logic.{inl, inr, ⊎_elim}
+use Rattle.std.proofs.Math.Logic.Iff
 use mathlib.Core.List.Memᴰ
 use mathlib.Core.List.{List, [], ◌∷◌}
 use mathlib.Mathlib.Logic.Relation.{ReflTransGenᴰ}
@@ -32,7 +33,7 @@ use Rattle.propagation.specs.Pass.{inside, carried, new_tags, carried_all, new_i
 
 -- an edge is inside where both its ends are below n
 pub inside-iff : (n : ℕ) (e : ℕ × ℕ) → (inside n e ≡ true) ↔ ((e.0 < n) × (e.1 < n))
-inside-iff n e = simp (and-iff, lt_iff) Iff·rfl
+inside-iff n e = simp (and-iff, lt_iff) Iff.rfl
 
 -- the words with the tags of a set given to container b
 abbrev given : List ℕ → ℕ → TagSet → List ℕ
@@ -84,7 +85,7 @@ module _ (n : ℕ) (found : List ℕ) (e : ℕ × ℕ) (ws : List ℕ) where
     edge-has : (c t : ℕ)
         → (has (set_at (carried n found e ws) c) t ≡ true)
         ↔ ((has (set_at ws c) t ≡ true) ⊎ ((inside n e ≡ true) × (eqb c e.1 && has (set_at found e.0) t ≡ true)))
-    edge-has c t = simp (both, or-and-iff) Iff·rfl
+    edge-has c t = simp (both, or-and-iff) Iff.rfl
       where
         both : has (set_at (carried n found e ws) c) t ≡ has (set_at ws c) t || (inside n e && (eqb c e.1 && has (set_at found e.0) t))
         both =

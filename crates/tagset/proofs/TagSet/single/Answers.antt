@@ -1,0 +1,17 @@
+-- `single` meets its contract: the store of a shifted 1 loses no bit, and a tag past 255 leaves the words at 0. Assumes nothing.
+use mathlib.Core.Path.{sym}
+use borrow.Author.Rules.{rules}
+use Rattle.tagset.specs.Set.{empty_set}
+use Rattle.tagset.specs.Word.{single-made}
+use Rattle.tagset.specs.Laws.{single-past}
+use Rattle.tagset.proofs.TagSet.single.Goals as goal
+
+pub returns-then-tag-lt256 : goal.returns-then-tag-lt256
+returns-then-tag-lt256 c =
+    single-made _
+
+
+pub returns : goal.returns
+unfolding empty_set
+returns c =
+    sym (single-past _ c.if-tag-lt256.false)
