@@ -1,0 +1,13 @@
+-- The records that the core was given are the first 512 of the lent table, and the answer goes by these (size-front).
+use Rattle.std.specs.Prelude.{List}
+use Rattle.model.specs.declared.Flow.{Flow}
+use Rattle.state.specs.State.{state_of}
+use Rattle.question.specs.Question.{size_asked}
+use Rattle.front.specs.Front.{size-front}
+use Rattle.tracker.specs.Lent.{same_answer}
+use Rattle.tracker.proofs.size_of.Goals as goal
+
+pub returns : goal.returns
+returns c =
+    same_answer c.args.flows.now c.load-rows.ensures (λ (fs : List Flow). size_asked (state_of c.args.header c.args.tags.now c.args.policies.now c.args.counts.now fs) c.args.container)
+    (λ fs. size-front (state_of c.args.header c.args.tags.now c.args.policies.now c.args.counts.now fs) c.args.container) c.size_of.ensures
