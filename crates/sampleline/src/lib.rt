@@ -9,7 +9,7 @@ ghost use Rattle.std.specs.Prelude.{◌≤◌, length};
 use tagset::TagSet;
 
 // The numbers of a line: at most 64, and how many there are.
-#[derive(Drop)]
+#[derive(Clone, Copy)]
 pub struct Numbers {
     pub values: [u64; 64],
     pub count: usize,

@@ -1,33 +1,36 @@
-// Bytes, numbers, sets and answers on standard output.
+// Bytes, numbers, sets and answers, written to an output.
 use leb128::Encoded;
+use std::io;
+use std::io::Write;
 use tagset::TagSet;
 
 // Writes bytes.
-pub fn text(s: &[u8]) {
-    io::write_all(libc::STDOUT_FILENO, s);
+pub fn text<W: Write>(out: &mut W, s: &[u8]) -> io::Result<()> {
+    out.write_all(s)
 }
 
 // Writes a number.
-pub fn decimal(n: u64) {
-    io::print_decimal(libc::STDOUT_FILENO, n);
+pub fn decimal<W: Write>(out: &mut W, n: u64) -> io::Result<()> {
+    write!(out, "{n}")
 }
 
 // Writes bytes and a number behind them.
-pub fn named(name: &[u8], n: u64) {
-    text(name);
-    decimal(n);
+pub fn named<W: Write>(out: &mut W, name: &[u8], n: u64) -> io::Result<()> {
+    text(out, name)?;
+    decimal(out, n)
 }
 
 // Writes the first n bytes as numbers, with a space before each.
-pub fn spaced_bytes(s: &[u8], n: usize) {
+pub fn spaced_bytes<W: Write>(out: &mut W, s: &[u8], n: usize) -> io::Result<()> {
     let mut i = 0;
     while i < s.len() {
         if n <= i {
-            return;
+            return Ok(());
         }
-        named(b" ", wide(s[i]));
+        named(out, b" ", wide(s[i]))?;
         i += 1;
     }
+    Ok(())
 }
 
 // The byte as a wider number.
@@ -36,36 +39,37 @@ fn wide(b: u8) -> u64 {
 }
 
 // Writes the tags, rising, with a space before each.
-pub fn spaced_tags(s: TagSet) {
+pub fn spaced_tags<W: Write>(out: &mut W, s: TagSet) -> io::Result<()> {
     let mut t: u32 = 0;
     while t < 256 {
         if s.contains(t) {
-            named(b" ", t as u64);
+            named(out, b" ", t as u64)?;
         }
         t += 1;
     }
+    Ok(())
 }
 
 // Writes yes or no.
-pub fn yes(b: bool) {
+pub fn yes<W: Write>(out: &mut W, b: bool) -> io::Result<()> {
     if b {
-        text(b"yes");
+        text(out, b"yes")
     } else {
-        text(b"no");
+        text(out, b"no")
     }
 }
 
 // Writes a refusal.
-pub fn refused(number: u64) {
-    named(b": refused ", number);
+pub fn refused<W: Write>(out: &mut W, number: u64) -> io::Result<()> {
+    named(out, b": refused ", number)
 }
 
 // Writes what writing answers, and what it leaves.
-pub fn written(w: Encoded, left: &[u8]) {
+pub fn written<W: Write>(out: &mut W, w: Encoded, left: &[u8]) -> io::Result<()> {
     match w {
-        Encoded::Next(p) => named(b": next ", p as u64),
-        Encoded::ShortOutput => refused(10),
+        Encoded::Next(p) => named(out, b": next ", p as u64)?,
+        Encoded::ShortOutput => refused(out, 10)?,
     }
-    text(b", leaves");
-    spaced_bytes(left, left.len());
+    text(out, b", leaves")?;
+    spaced_bytes(out, left, left.len())
 }
