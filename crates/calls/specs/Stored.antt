@@ -7,7 +7,7 @@ use Rattle.model.specs.declared.Flow.{Flow}
 use Rattle.state.specs.declared.Header.{Header}
 use Rattle.state.specs.State.{no_flow}
 use Rattle.flowslice.specs.Slice.{stored_in}
-use Rattle.flowslice.specs.Laws.{stored-length, stored-nothing, stored-all, stored_one}
+use Rattle.flowslice.proofs.Laws.{stored-length, stored-nothing, stored-all, stored_one}
 use Rattle.flowtable.specs.FlowTable.{removed_at}
 use Rattle.flowtable.specs.Laws.{stored-removed}
 use Rattle.validity.specs.Lent.{lent-whole}

@@ -1,3 +1,1 @@
-pub mod Laws
 pub mod Slice
-pub mod Turns

@@ -15,7 +15,7 @@ use Rattle.model.specs.Model.{is_enabled, keep, without}
 use Rattle.state.specs.State.{no_flow, with_flows}
 use Rattle.state.specs.IsValid.{Rising}
 use Rattle.flowslice.specs.Slice.{stored_in}
-use Rattle.flowslice.specs.Laws.{stored_is}
+use Rattle.flowslice.proofs.Laws.{stored_is}
 use Rattle.flowtable.specs.declared.Found.TheVariants.{At, Absent}
 use Rattle.flowtable.specs.FlowTable.{place_of, found_in, shifted, removed_at}
 

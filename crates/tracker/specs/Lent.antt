@@ -4,7 +4,7 @@ use Rattle.std.specs.Prelude.{◌≡◌, List, ◌++◌, ℕ, length, take, drop
 use Rattle.std.proofs.Common.{sym, ap, subst, ◌∙◌, take-append-drop}
 use Rattle.model.specs.declared.Flow.{Flow}
 use Rattle.flowslice.specs.Slice.{loaded_from, stored_in}
-use Rattle.flowslice.specs.Laws.{loaded-length, loaded-lent, stored-length, stored-lent}
+use Rattle.flowslice.proofs.Laws.{loaded-length, loaded-lent, stored-length, stored-lent}
 
 module _ (table : List Flow) {rows : List Flow} (loaded : rows ≡ loaded_from table) where
   -- what the core looks at is the first 512 records

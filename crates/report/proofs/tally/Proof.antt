@@ -10,7 +10,7 @@ use Rattle.leb128.specs.Answer.{Writing}
 use Rattle.leb128.specs.Number.{write_at}
 use Rattle.model.specs.declared.Flow.{Flow}
 use Rattle.state.specs.State.{Storage, storage_of, state_of, no_flow}
-use Rattle.flowslice.specs.Laws.{stored-length}
+use Rattle.flowslice.proofs.Laws.{stored-length}
 use Rattle.replay.specs.declared.Replayed.{Replayed}
 use Rattle.replay.specs.Replay.{Replay, replay_of}
 use Rattle.replay.specs.Replies.{ending_of, replay_by}

@@ -8,7 +8,7 @@ use Rattle.std.proofs.Math.ListN.{get_or-eq_default}
 use Rattle.model.specs.declared.Flow.{Flow}
 use Rattle.state.specs.State.{no_flow}
 use Rattle.flowslice.specs.Slice.{loaded_from, stored_in}
-use Rattle.flowslice.specs.Laws.{loaded-length, loaded_at, stored_is}
+use Rattle.flowslice.proofs.Laws.{loaded-length, loaded_at, stored_is}
 
 -- LOADED
 
