@@ -11,7 +11,8 @@ use Rattle.tagset.specs.declared.TagSet.{TagSet}
 use Rattle.tagset.specs.Set.{has}
 use Rattle.state.specs.State.{State, policy_count, policy_at, set_at, flows_of}
 use Rattle.state.specs.IsValid.{Usable}
-use Rattle.tagstore.specs.Laws.{put-length, put_other, put_has, put-other-set, put-beyond}
+use Rattle.tagstore.specs.Laws.{put-length}
+use Rattle.tagstore.proofs.Put.{put_other, put_has, put-other-set, put-beyond}
 use Rattle.outcome.specs.Outcome.{add_order, adding, add_of}
 use Rattle.outcome.specs.Refusals.{decided-done}
 use Rattle.outcome.specs.Table.{Adds, AddAnswers, add-answers, accepted}

@@ -26,7 +26,8 @@ use Rattle.tagset.specs.Laws.{union-has, union-words, subset-of-has, not-subset-
 use Rattle.state.specs.State.{set_at}
 use Rattle.state.specs.Layout.{Fit64, set-fits}
 use Rattle.tagstore.specs.Store.{put_set, total_of}
-use Rattle.tagstore.specs.Laws.{put-length, put_has, put-other-set, put-beyond, put-fits, total-put, total-le}
+use Rattle.tagstore.specs.Laws.{put-length, total-le}
+use Rattle.tagstore.proofs.Put.{put_has, put-other-set, put-beyond, put-fits, total-put}
 use Rattle.propagation.specs.Pass.{inside, carried, new_tags, carried_all, new_in_all, pass, passed, new_in_passes, adds, passes_up_to, passes_of, sets_in, pass_count, sets_after, pairs_added}
 
 -- ONE EDGE

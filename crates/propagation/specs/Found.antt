@@ -6,7 +6,8 @@ use Rattle.std.proofs.Math.Decide.{ℕ_discrete}
 use borrow.Table.Steps.{cases}
 use Rattle.state.specs.State.{set_at}
 use Rattle.tagstore.specs.Store.{load_of, put_set, store_of}
-use Rattle.tagstore.specs.Laws.{load-whole, store-whole, put-words, put-other-set}
+use Rattle.tagstore.specs.Laws.{load-whole, store-whole}
+use Rattle.tagstore.proofs.Put.{put-words, put-other-set}
 
 -- container a is listed from place i up to m
 abbrev pub Listed : List ℕ → ℕ → ℕ → ℕ → Type 0

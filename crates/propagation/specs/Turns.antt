@@ -17,7 +17,8 @@ use Rattle.tagset.specs.Laws.{has-lt, subset-of-has, union-absorbs}
 use Rattle.state.specs.State.{set_at}
 use Rattle.state.specs.Layout.{Fit64, set-fits}
 use Rattle.tagstore.specs.Store.{put_set}
-use Rattle.tagstore.specs.Laws.{set-cong, put_same, put-other-set, total-le}
+use Rattle.tagstore.specs.Laws.{set-cong, total-le}
+use Rattle.tagstore.proofs.Put.{put_same, put-other-set}
 use Rattle.propagation.specs.Pass.{inside, carried, new_tags, carried_all, new_in_all, pass, passed, new_in_passes, adds, passes_of}
 use Rattle.propagation.specs.Found.{Found, found-more}
 use Rattle.propagation.specs.Exact.{inside-iff, edge-inside, edge-outside, new-total, passed_length, passed-suc, adds-new, passes-total, passes-some, passes-add, passes-last}

@@ -1,14 +1,12 @@
 -- Laws of what starting writes: a front of zeros one element a turn, own tags one set a turn. Assumes nothing.
-use Rattle.std.specs.Prelude.{◌≡◌, refl, List, [], ◌∷◌, ◌++◌, ℕ, zero, suc, ◌+◌, ◌*◌, ◌/◌, ◌%◌, ◌≤◌, ◌<◌, min, length, get_or, set, drop, replicate}
-use Rattle.std.proofs.Common.{sym, ap, ap₂, ◌∙◌, le_of_suc-le-suc, not-suc-le-zero, arith, length-set, drop_of_length-le}
+use Rattle.std.specs.Prelude.{◌≡◌, List, ◌++◌, ℕ, ◌+◌, ◌*◌, ◌/◌, ◌≤◌, ◌<◌, min, length, set, drop, replicate}
+use Rattle.std.proofs.Common.{sym, ap, ap₂, ◌∙◌, arith, length-set, drop_of_length-le}
 use Rattle.std.proofs.Math.Logic.{by_cases}
 use Rattle.std.proofs.Math.Decide.{dec_lt}
 use Rattle.std.proofs.lemmas.List.Edits.{fill_more}
-use Rattle.tagset.specs.declared.TagSet.{TagSet}
 use Rattle.tagset.specs.Set.{single_of}
-use Rattle.model.specs.Reach.{tabulate}
 use Rattle.state.specs.State.{with_sets}
-use Rattle.tagstore.specs.Store.{put_set, zero_front}
+use Rattle.tagstore.specs.Store.{zero_front}
 
 -- ZEROS
 
@@ -47,30 +45,6 @@ module _ {start : List ℕ} {m : ℕ} {l : List ℕ} {i : ℕ} (h : Cleared star
   cleared-all e = h.zeros ∙ zero-done i m start e
 
 -- SETS
-
--- one word more
-word_more : (w : ℕ → ℕ) (ws : List ℕ) (i : ℕ) → i < length ws → set (tabulate i w ++ drop i ws) i (w i) ≡ tabulate (suc i) w ++ drop (suc i) ws
-unfolding tabulate
-word_more w [] i h = absurd (not-suc-le-zero h)
-word_more w (x ∷ ws) zero h = refl
-word_more w (x ∷ ws) (suc i) h = ap (λ (l : List ℕ). w zero ∷ l) (word_more (λ j. w (suc j)) ws i (le_of_suc-le-suc h))
-
--- one set more
-pub sets_more : (c : ℕ) (f : ℕ → TagSet) (ws : List ℕ) → 4 * c + 4 ≤ length ws → put_set (with_sets c f ws) c (f c) ≡ with_sets (c + 1) f ws
-unfolding put_set with_sets
-sets_more c f ws h =
-    rw (at (4 * c) 0 (4 * c + 1) (omega arith), at (4 * c + 1) 1 (4 * c + 2) (omega arith), at (4 * c + 2) 2 (4 * c + 3) (omega arith))
-    (at (4 * c + 3) 3 (4 * (c + 1)) (omega arith))
-  where
-    word : ℕ → ℕ
-    word i = get_or (f (i / 4)).words (i % 4) 0
-
-    at : (i j k : ℕ) → (i ≡ 4 * c + j) × (j < 4) × (k ≡ suc i)
-        → set (tabulate i word ++ drop i ws) i (get_or (f c).words j 0) ≡ tabulate k word ++ drop k ws
-    at i j k (e, l, s) =
-        ap (λ (x : ℕ). set (tabulate i word ++ drop i ws) i x)
-        (ap₂ (λ (a b : ℕ). get_or (f a).words b 0) (omega (arith, e, l)) (omega (arith, e, l)))
-        ∙ word_more word ws i (omega (arith, e, l, h)) ∙ ap (λ (n : ℕ). tabulate n word ++ drop n ws) (sym s)
 
 -- where the words have n sets, each of the first n containers gets its own tag
 pub own-all : (n : ℕ) (ws : List ℕ) → 4 * n ≤ length ws → with_sets (min n (length ws / 4)) single_of ws ≡ with_sets n single_of ws

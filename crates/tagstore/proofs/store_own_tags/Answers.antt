@@ -11,7 +11,7 @@ use Rattle.model.specs.Reach.{tabulate}
 use Rattle.state.specs.State.{with_sets}
 use Rattle.tagstore.specs.Store.{put_set}
 use Rattle.tagstore.specs.Laws.{store-whole}
-use Rattle.tagstore.specs.Starting.{sets_more}
+use Rattle.tagstore.proofs.Put.{sets_more}
 use Rattle.tagstore.proofs.store_own_tags.Goals as goal
 
 pub loop-c-init : goal.loop-c-init
