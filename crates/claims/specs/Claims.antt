@@ -382,7 +382,7 @@ use Rattle.replay.specs.Laws.{AllAccepted, gains_of, ContainersAnswers, containe
 use Rattle.replay.specs.Joins.{joining, done_of, replay-done}
 use Rattle.replay.specs.Numbers.{begins-exactly-if}
 use Rattle.decimal.specs.Decimal.{decimal_of, number_of}
-use Rattle.decimal.specs.Laws.{decimal-last, decimal-value, decimal_digit, decimal-front}
+use Rattle.decimal.proofs.Laws.{decimal-last, decimal-value, decimal_digit, decimal-front}
 use Rattle.tallytext.specs.Text.{events_word, gain_word, refused_word, at_word, tags_rising, line_of, lines_of, events_line, refused_line, text_of, new_storage, printed_of, left_of, tally_of}
 use Rattle.report.specs.declared.Tallied.{Tallied}
 use Rattle.tallytext.specs.Words.{line_with, line-words, events-line-words, refused-line-words, no_lines, line-by-line}

@@ -6,7 +6,7 @@ unfoldable pub digits : ℕ → ℕ → List ℕ
 digits zero v = (48 + v) ∷ []
 digits (suc d) v = elim (ltb v 10) [ true ↦ (48 + v) ∷ [] | false ↦ digits d (v / 10) ++ ((48 + v % 10) ∷ []) ]
 
--- the digits of v. Laws.antt: each is one of `0` to `9`, the first is not `0` where there are several, and read as a number they give v
+-- the digits of v. proofs/Laws.antt: each is one of `0` to `9`, the first is not `0` where there are several, and read as a number they give v
 unfoldable pub decimal_of : ℕ → List ℕ
 unfolding digits
 decimal_of v = digits v v

@@ -18,7 +18,7 @@ use Rattle.leb128.specs.Number.{IsBytes, Written}
 use Rattle.leb128.specs.Output.{overwrite-start, write-fits, write-short}
 use Rattle.eventlog.specs.Log.{head_at}
 use Rattle.decimal.specs.Decimal.{decimal_of}
-use Rattle.decimal.specs.Laws.{decimal_digit, decimal-below}
+use Rattle.decimal.proofs.Laws.{decimal_digit, decimal-below}
 use Rattle.model.specs.declared.Flow.{Flow}
 use Rattle.model.specs.Model.{◌∈◌}
 use Rattle.tagset.specs.declared.TagSet.{TagSet}

@@ -4,7 +4,7 @@ use Prim.Native.Nat.{ℕ, ◌+◌}
 use native.Mathlib.Omega.{arith}
 use borrow.Author.Rules.{rules}
 use Rattle.decimal.specs.Decimal.{decimal_of}
-use Rattle.decimal.specs.Laws.{decimal-20}
+use Rattle.decimal.proofs.Laws.{decimal-20}
 use Rattle.report.specs.Put.{put-write}
 use Rattle.report.proofs.put_decimal.Statement.{statement}
 use Rattle.report.proofs.put_decimal.Tie as tie

@@ -4,7 +4,7 @@ use native.Mathlib.Omega.{arith}
 use lib.ListN.{length}
 use borrow.Author.Rules.{rules}
 use Rattle.decimal.specs.Decimal.{decimal_of}
-use Rattle.decimal.specs.Laws.{decimal-20}
+use Rattle.decimal.proofs.Laws.{decimal-20}
 use Rattle.report.specs.Put.{put-append}
 use Rattle.tallytext.specs.Pieces.{spaced-one}
 use Rattle.report.proofs.put_pair.Statement.{statement}

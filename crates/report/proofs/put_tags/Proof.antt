@@ -7,7 +7,7 @@ use Prim.Native.Nat.{◌+◌, ◌-◌, ◌*◌, ◌≤◌}
 use native.Mathlib.Omega.{arith}
 use borrow.Author.Rules.{rules}
 use Rattle.decimal.specs.Decimal.{decimal_of}
-use Rattle.decimal.specs.Laws.{decimal-3}
+use Rattle.decimal.proofs.Laws.{decimal-3}
 use Rattle.tallytext.specs.Text.{space, spaced, tags_rising}
 use Rattle.report.specs.Put.{Putting, putting-begun, putting-next, putting-ended}
 use Rattle.tallytext.specs.Pieces.{tags_from, tag_in, tag-out, tags-end}

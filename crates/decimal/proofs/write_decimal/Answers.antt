@@ -1,5 +1,4 @@
--- `decimal::write_decimal` meets its contract. The invariant: the digits from place `i` on are written, and those before it are the digits of what is left.
--- The measure is `i`. Assumes nothing.
+-- `decimal::write_decimal` meets its contract. Assumes nothing.
 use mathlib.Core.Path.{◌≡◌, refl, sym, ap, subst, subst₂, ◌∙◌}
 use mathlib.Core.Logic.{by_cases}
 use mathlib.Core.List.{List, [], ◌∷◌}
@@ -7,15 +6,14 @@ use Prim.Native.Nat.{ℕ, suc, ◌+◌, ◌-◌, ◌/◌, ◌%◌, ◌≤◌, �
 use native.Mathlib.Nat.{le_refl, add-zero, add-suc}
 use native.Mathlib.Decide.{dec_lt}
 use native.Mathlib.Omega.{arith}
-use borrow.Author.Rules.{rules}
 use lib.ListN.{length, set, take, drop, get_or}
 use lib.Seq.{sets, sets-eq, length-sets, set_comm, take-length, drop-length, drop-cons, take-suc, take_at, get_or_at, get_or-take, length-take-le}
 use Rattle.leb128.specs.Number.{write_at, overwrite}
 use Rattle.leb128.specs.Output.{fits-outcome, short-outcome}
 use Rattle.decimal.specs.Decimal.{decimal_of}
-use Rattle.decimal.specs.Laws.{decimal-last, decimal-more, decimal-length, decimal-some}
-use Rattle.decimal.proofs.write_decimal.Statement.{statement}
-use Rattle.decimal.proofs.write_decimal.Tie as tie
+use Rattle.decimal.proofs.Laws.{decimal-last, decimal-more, decimal-length, decimal-some}
+use Rattle.decimal.proofs.write_decimal.Invariants.{Here}
+use Rattle.decimal.proofs.write_decimal.Goals as goal
 
 -- a store in front of a stored part may as well come first
 set-sets : (vs l : List ℕ) (k j a : ℕ) → k < j → set (sets l j vs) k a ≡ sets (set l k a) j vs
@@ -59,13 +57,6 @@ module _ (ds : List ℕ) (v j : ℕ) (h : j < length ds) (e : decimal_of v ≡ t
 -- nothing changes where the digits, of which there is one at least, do not fit
 short : (out : List ℕ) (at v : ℕ) → (1 ≤ length (decimal_of v) → length out < at + length (decimal_of v)) → out ≡ (write_at out at (decimal_of v)).output
 short out at v h = (short-outcome out at (decimal_of v) (h (decimal-some v))).1
-
--- what holds at the loop's head
-record Here (out₀ : List ℕ) (at value : ℕ) (out : List ℕ) (rest i : ℕ) : Type 0 where
-  fits : at + length (decimal_of value) ≤ length out₀
-  most : i ≤ length (decimal_of value)
-  left : 0 < i → decimal_of rest ≡ take i (decimal_of value)
-  same : out ≡ sets out₀ (at + i) (drop i (decimal_of value))
 
 -- before the first turn nothing is written
 start : {out : List ℕ} {at value n : ℕ} → n ≡ length (decimal_of value) → at + n ≤ length out → Here out at value out value n
@@ -118,73 +109,39 @@ module _ {out₀ : List ℕ} {at value : ℕ} {out : List ℕ} {rest : ℕ} wher
       ∙ sets-eq (decimal_of value) out₀ at h.fits
       ∙ (fits-outcome out₀ at (decimal_of value) h.fits).1
 
-abbrev invariant-loop : tie.invariant-loop
-invariant-loop out₀ at value n rest₀ i₀ out rest i = Here out₀ at value out rest i
+pub returns-then-out-at : goal.returns-then-out-at
+returns-then-out-at c =
+    let a = c.args in short a.out.now a.at a.value (λ some. omega arith)
 
-abbrev decreases-loop : tie.decreases-loop
-decreases-loop out₀ at value n rest₀ i₀ out rest i = i
+pub overflow_sub-out : goal.overflow_sub-out
+overflow_sub-out c =
+    omega arith
 
-decimal-len-requires : tie.Need-decimal-len-requires invariant-loop decreases-loop
-decimal-len-requires c κs = search rules
+pub returns-then-out-at-2 : goal.returns-then-out-at-2
+returns-then-out-at-2 c =
+    let a = c.args in
+    short a.out.now a.at a.value (λ some. omega (arith, c.decimal_len-n.ensures))
 
-returns : tie.Need-returns invariant-loop decreases-loop
-returns c = let a = c.before.before.before.args in short a.out.now a.at a.value (λ some. omega arith)
+pub loop-i-init : goal.loop-i-init
+loop-i-init c =
+    start c.decimal_len-n.ensures (omega arith)
 
-sub-if2 : tie.Need-overflow-sub-if2 invariant-loop decreases-loop
-sub-if2 c = omega arith
+pub overflow_add-out-in-loop-i : goal.overflow_add-out-in-loop-i
+overflow_add-out-in-loop-i c =
+    omega (arith, inside c.loop-i.invariant (omega arith), size c.loop-i.invariant)
 
-returns-2 : tie.Need-returns-2 invariant-loop decreases-loop
-returns-2 c =
-    let a = c.before.before.before.before.args in
-    short a.out.now a.at a.value (λ some. omega (arith, c.before.before.decimal-len.ensures))
+pub bounds-out-at : goal.bounds-out-at
+bounds-out-at c =
+    omega (arith, inside c.loop-i.invariant (omega arith))
 
-loop-holds : tie.Need-loop-init invariant-loop decreases-loop
-loop-holds c = start c.before.before.decimal-len.ensures (omega arith)
+pub loop-i-preserved : goal.loop-i-preserved
+loop-i-preserved c =
+    again c.loop-i.invariant (omega arith) (omega arith) (omega arith) (omega arith)
 
-sub-i : tie.Need-overflow-sub-i invariant-loop decreases-loop
-sub-i c = search rules
+pub shape_of-out : goal.shape_of-out
+shape_of-out c =
+    size c.loop-i.invariant
 
-add-out : tie.Need-overflow-add-out invariant-loop decreases-loop
-add-out c = search rules
-
-cast-out : tie.Need-overflow-cast-out invariant-loop decreases-loop
-cast-out c = search rules
-
-add-out-2 : tie.Need-overflow-add-out-2 invariant-loop decreases-loop
-add-out-2 c = omega (arith, inside c.before.loop.invariant (omega arith), size c.before.loop.invariant)
-
-slice-write-out : tie.Need-slice-write-out invariant-loop decreases-loop
-slice-write-out c = omega (arith, inside c.before.loop.invariant (omega arith))
-
-loop-less : tie.Need-loop-smaller invariant-loop decreases-loop
-loop-less c = search rules
-
-loop-again : tie.Need-loop-preserved invariant-loop decreases-loop
-loop-again c = again c.before.loop.invariant (omega arith) (omega arith) (omega arith) (omega arith)
-
-same_length : tie.Need-same-length invariant-loop decreases-loop
-same_length c = size c.before.loop.invariant
-
-returns-3 : tie.Need-returns-3 invariant-loop decreases-loop
-returns-3 c = done c.before.loop.invariant (omega arith)
-
-pub write-decimal-spec : {M : Type 1} → statement M
-write-decimal-spec =
-    tie.close
-    (tie.spec
-    invariant-loop
-    decreases-loop
-    decimal-len-requires
-    returns
-    sub-if2
-    returns-2
-    loop-holds
-    sub-i
-    add-out
-    cast-out
-    add-out-2
-    slice-write-out
-    loop-less
-    loop-again
-    same_length
-    returns-3)
+pub returns : goal.returns
+returns c =
+    done c.loop-i.invariant (omega arith)
