@@ -5,27 +5,37 @@ use model::Flow;
 use sampleline::Numbers;
 use sampleline::print::{named, refused};
 use state::Header;
+use std::io;
+use std::io::Write;
 
 // `start N`, with the header that comes back.
-pub fn start(
+pub fn start<W: Write>(
+    out: &mut W,
     a: Numbers,
     now: Now,
     tags: &mut [u64],
     policies: &mut [u64],
     counts: &mut [u8],
-) -> Now {
+) -> io::Result<Now> {
     let flows = now.flows;
     let length = now.length;
     let done = calls::start(a.small(0), tags, policies, counts, length, flows);
     let answered = done.answered;
     let table = done.flows;
-    let after = told(answered, table, length);
-    header_text(b", n ", after.header);
-    after
+    let after = told(out, answered, table, length)?;
+    header_text(out, b", n ", after.header)?;
+    Ok(after)
 }
 
 // `enable K F T`.
-pub fn enable(a: Numbers, now: Now, tags: &mut [u64], policies: &[u64], counts: &[u8]) -> Now {
+pub fn enable<W: Write>(
+    out: &mut W,
+    a: Numbers,
+    now: Now,
+    tags: &mut [u64],
+    policies: &[u64],
+    counts: &[u8],
+) -> io::Result<Now> {
     let flows = now.flows;
     let length = now.length;
     let flow = Flow {
@@ -36,22 +46,36 @@ pub fn enable(a: Numbers, now: Now, tags: &mut [u64], policies: &[u64], counts: 
     let done = calls::enable(now.header, tags, policies, counts, length, flows, flow);
     let answered = done.answered;
     let table = done.flows;
-    told(answered, table, length)
+    told(out, answered, table, length)
 }
 
 // `disable K`.
-pub fn disable(a: Numbers, now: Now, tags: &[u64], policies: &[u64], counts: &[u8]) -> Now {
+pub fn disable<W: Write>(
+    out: &mut W,
+    a: Numbers,
+    now: Now,
+    tags: &[u64],
+    policies: &[u64],
+    counts: &[u8],
+) -> io::Result<Now> {
     let flows = now.flows;
     let length = now.length;
     let number = a.small(0);
     let done = calls::disable(now.header, tags, policies, counts, length, flows, number);
     let answered = done.answered;
     let table = done.flows;
-    told(answered, table, length)
+    told(out, answered, table, length)
 }
 
 // `add C T..`: the policy set of these tags.
-pub fn add(a: Numbers, now: Now, tags: &[u64], policies: &mut [u64], counts: &mut [u8]) -> Now {
+pub fn add<W: Write>(
+    out: &mut W,
+    a: Numbers,
+    now: Now,
+    tags: &[u64],
+    policies: &mut [u64],
+    counts: &mut [u8],
+) -> io::Result<Now> {
     let flows = now.flows;
     let length = now.length;
     let policy = a.tags(1, a.count);
@@ -65,7 +89,7 @@ pub fn add(a: Numbers, now: Now, tags: &[u64], policies: &mut [u64], counts: &mu
         a.small(0),
         policy,
     );
-    told(answered, flows, length)
+    told(out, answered, flows, length)
 }
 
 // `fill N`: enables N flows from 0 to 1, each with the next number. Nothing is printed.
@@ -97,30 +121,35 @@ pub fn fill(a: Numbers, mut now: Now, tags: &mut [u64], policies: &[u64], counts
 }
 
 // Prints what a call answers (that it is accepted, with its gain, or the refusal), and gives back the tracker of now on.
-pub fn told(answered: Answered, flows: [Flow; 512], length: usize) -> Now {
+pub fn told<W: Write>(
+    out: &mut W,
+    answered: Answered,
+    flows: [Flow; 512],
+    length: usize,
+) -> io::Result<Now> {
     let reply = answered.reply;
     match reply {
-        Reply::Accepted(gain) => named(b": accepted, gain ", gain as u64),
-        Reply::NoSuchContainer => refused(4),
-        Reply::SelfFlow => refused(5),
-        Reply::StaleNumber => refused(6),
-        Reply::TableFull => refused(7),
-        Reply::NotEnabled => refused(8),
-        Reply::BadSize => refused(9),
-        Reply::PolicyFull => refused(11),
-        Reply::InvalidState => refused(12),
+        Reply::Accepted(gain) => named(out, b": accepted, gain ", gain as u64)?,
+        Reply::NoSuchContainer => refused(out, 4)?,
+        Reply::SelfFlow => refused(out, 5)?,
+        Reply::StaleNumber => refused(out, 6)?,
+        Reply::TableFull => refused(out, 7)?,
+        Reply::NotEnabled => refused(out, 8)?,
+        Reply::BadSize => refused(out, 9)?,
+        Reply::PolicyFull => refused(out, 11)?,
+        Reply::InvalidState => refused(out, 12)?,
     }
     let header = answered.header;
-    Now {
+    Ok(Now {
         header: header,
         flows: flows,
         length: length,
-    }
+    })
 }
 
 // A header's numbers.
-pub fn header_text(before: &[u8], header: Header) {
-    named(before, header.containers as u64);
-    named(b", flows ", header.count as u64);
-    named(b", greatest ", header.greatest as u64);
+pub fn header_text<W: Write>(out: &mut W, before: &[u8], header: Header) -> io::Result<()> {
+    named(out, before, header.containers as u64)?;
+    named(out, b", flows ", header.count as u64)?;
+    named(out, b", greatest ", header.greatest as u64)
 }
