@@ -372,7 +372,8 @@ use Rattle.question.specs.Laws.{asked-number, QuestionAnswers, question-answers,
 use Rattle.ranking.specs.declared.Ranked.{Ranked}
 use Rattle.ranking.specs.Ranking.{ranks_before, ranking_of, SortedBy, Ranking, rank_of, rank_into}
 use Rattle.ranking.specs.Replies.{ranked_reply, ranked-injective}
-use Rattle.ranking.specs.Laws.{ranks-before-iff, ranking-length, ranking-members, ranking-sorted, ranking-once, ranking-unique, RankAnswers, rank-answers, rank-refused, rank-done, rank-into-done, rank-into-none}
+use Rattle.ranking.specs.Laws.{ranking-length, ranking-members, RankAnswers, rank-answers, rank-refused, rank-done, rank-into-done, rank-into-none}
+use Rattle.ranking.proofs.Relation.{ranks-before-iff, ranking-sorted, ranking-once, ranking-unique}
 use Rattle.replay.specs.declared.Containers.{Containers}
 use Rattle.replay.specs.declared.Ending.{Ending}
 use Rattle.replay.specs.declared.Replayed.{Replayed}
