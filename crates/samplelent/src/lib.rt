@@ -6,6 +6,8 @@ use model::Flow;
 use samplecalls::Now;
 use samplecalls::changes::{header_text, told};
 use sampleline::Numbers;
+use std::io;
+use std::io::Write;
 
 // Replays a log, and enables a flow after it.
 pub fn go_on(
@@ -22,14 +24,15 @@ pub fn go_on(
 }
 
 // `lent K F T B..`: a log replayed and a flow enabled after it by the public calls, on a lent table of other content. The script's header and table stay.
-pub fn lent(
+pub fn lent<W: Write>(
+    out: &mut W,
     a: Numbers,
     s: &[u8],
     now: Now,
     tags: &mut [u64],
     policies: &mut [u64],
     counts: &mut [u8],
-) -> Now {
+) -> io::Result<Now> {
     let content = Flow {
         number: 7,
         from: 8,
@@ -42,7 +45,7 @@ pub fn lent(
     };
     let answered = go_on(s, tags, policies, counts, content, flow);
     let flows = now.flows;
-    let after = told(answered, flows, now.length);
-    header_text(b", n ", after.header);
-    now
+    let after = told(out, answered, flows, now.length)?;
+    header_text(out, b", n ", after.header)?;
+    Ok(now)
 }
