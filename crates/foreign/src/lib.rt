@@ -1,7 +1,7 @@
-// The product for programs in other languages: its calls, the log's reader and writer and the text of `tally`, exported as C functions on numbers, slices
-// and records. Each does what the function that its comment names does, and nothing else; an enum's case is said by the paper's number.
-// A slice is a pointer and a length. What no contract here can say, a caller in C owes: each pointer is aligned and not null, its elements are there for the whole
-// call, and what is lent to be written overlaps nothing else. evidence/product and evidence/interface have the same records in Rust.
+// The product for programs in other languages: its calls, the log's reader and writer and the text of `tally`, as functions on numbers, slices and records. Each
+// does what the function that its comment names does, and nothing else; an enum's case is said by the paper's number. The crate foreign_c exports them as C functions.
+// A slice is a pointer and a length there. What no contract here can say, a caller in C owes: each pointer is aligned and not null, its elements are there for the
+// whole call, and what is lent to be written overlaps nothing else. evidence/product and evidence/interface have the same records in Rust.
 #![tactic(auto)]
 
 ghost use Rattle.std.specs.Prelude.{◌≡◌, min, length};
@@ -105,8 +105,7 @@ pub struct RecordAnswer {
 }
 
 // `tracker::start`.
-#[unsafe(no_mangle)]
-pub extern "C" fn tracker_start(
+pub fn tracker_start(
     n: u32,
     tags: &mut [u64],
     policies: &mut [u64],
@@ -120,8 +119,7 @@ pub extern "C" fn tracker_start(
 }
 
 // `tracker::enable`.
-#[unsafe(no_mangle)]
-pub extern "C" fn tracker_enable(
+pub fn tracker_enable(
     header: Header,
     tags: &mut [u64],
     policies: &[u64],
@@ -136,8 +134,7 @@ pub extern "C" fn tracker_enable(
 }
 
 // `tracker::disable`.
-#[unsafe(no_mangle)]
-pub extern "C" fn tracker_disable(
+pub fn tracker_disable(
     header: Header,
     tags: &[u64],
     policies: &[u64],
@@ -152,8 +149,7 @@ pub extern "C" fn tracker_disable(
 }
 
 // `tracker::add_policy`.
-#[unsafe(no_mangle)]
-pub extern "C" fn tracker_add_policy(
+pub fn tracker_add_policy(
     header: Header,
     tags: &[u64],
     policies: &mut [u64],
@@ -169,8 +165,7 @@ pub extern "C" fn tracker_add_policy(
 }
 
 // `tracker::tags_of`.
-#[unsafe(no_mangle)]
-pub extern "C" fn tracker_tags_of(
+pub fn tracker_tags_of(
     header: Header,
     tags: &[u64],
     policies: &[u64],
@@ -185,8 +180,7 @@ pub extern "C" fn tracker_tags_of(
 }
 
 // `tracker::size_of`.
-#[unsafe(no_mangle)]
-pub extern "C" fn tracker_size_of(
+pub fn tracker_size_of(
     header: Header,
     tags: &[u64],
     policies: &[u64],
@@ -201,8 +195,7 @@ pub extern "C" fn tracker_size_of(
 }
 
 // `tracker::is_legal`.
-#[unsafe(no_mangle)]
-pub extern "C" fn tracker_is_legal(
+pub fn tracker_is_legal(
     header: Header,
     tags: &[u64],
     policies: &[u64],
@@ -217,8 +210,7 @@ pub extern "C" fn tracker_is_legal(
 }
 
 // `tracker::rank`: the refusal's number or 0.
-#[unsafe(no_mangle)]
-pub extern "C" fn tracker_rank(
+pub fn tracker_rank(
     header: Header,
     tags: &[u64],
     policies: &[u64],
@@ -234,8 +226,7 @@ pub extern "C" fn tracker_rank(
 }
 
 // `tracker::replay`.
-#[unsafe(no_mangle)]
-pub extern "C" fn tracker_replay(
+pub fn tracker_replay(
     bytes: &[u8],
     tags: &mut [u64],
     policies: &mut [u64],
@@ -249,16 +240,14 @@ pub extern "C" fn tracker_replay(
 }
 
 // `leb128::decode`.
-#[unsafe(no_mangle)]
-pub extern "C" fn log_decode(bytes: &[u8], at: usize, width: u32) -> NumberAnswer
+pub fn log_decode(bytes: &[u8], at: usize, width: u32) -> NumberAnswer
     ensures { reading_in result ≡ decode_at (min width 64) bytes.now at }
 {
     number_answer(leb128::decode(bytes, at, width))
 }
 
 // `leb128::encode`.
-#[unsafe(no_mangle)]
-pub extern "C" fn log_encode(out: &mut [u8], at: usize, value: u64) -> WriteAnswer
+pub fn log_encode(out: &mut [u8], at: usize, value: u64) -> WriteAnswer
     ensures answer { writing_in result ≡ (encode_at out.old at value).answer }
     ensures output { out.new ≡ (encode_at out.old at value).output }
 {
@@ -266,16 +255,14 @@ pub extern "C" fn log_encode(out: &mut [u8], at: usize, value: u64) -> WriteAnsw
 }
 
 // `eventlog::read_head`: the value is n.
-#[unsafe(no_mangle)]
-pub extern "C" fn log_read_head(bytes: &[u8]) -> NumberAnswer
+pub fn log_read_head(bytes: &[u8]) -> NumberAnswer
     ensures { reading_in result ≡ head_at bytes.now }
 {
     head_answer(eventlog::read_head(bytes))
 }
 
 // `eventlog::write_head`.
-#[unsafe(no_mangle)]
-pub extern "C" fn log_write_head(out: &mut [u8], n: u32) -> WriteAnswer
+pub fn log_write_head(out: &mut [u8], n: u32) -> WriteAnswer
     ensures answer { writing_in result ≡ (write_at out.old 0 (form_of n)).answer }
     ensures output { out.new ≡ (write_at out.old 0 (form_of n)).output }
 {
@@ -283,16 +270,14 @@ pub extern "C" fn log_write_head(out: &mut [u8], n: u32) -> WriteAnswer
 }
 
 // `eventlog::read_record`.
-#[unsafe(no_mangle)]
-pub extern "C" fn log_read_record(bytes: &[u8], at: usize) -> RecordAnswer
+pub fn log_read_record(bytes: &[u8], at: usize) -> RecordAnswer
     ensures { result ≡ record_of (record_at bytes.now at) }
 {
     record_answer(eventlog::read_record(bytes, at))
 }
 
 // `eventlog::write_record` of an enable.
-#[unsafe(no_mangle)]
-pub extern "C" fn log_write_enable(out: &mut [u8], at: usize, flow: Flow) -> WriteAnswer
+pub fn log_write_enable(out: &mut [u8], at: usize, flow: Flow) -> WriteAnswer
     ensures answer { writing_in result ≡ (write_at out.old at (bytes_of (Enable flow.number flow.from flow.to))).answer }
     ensures output { out.new ≡ (write_at out.old at (bytes_of (Enable flow.number flow.from flow.to))).output }
 {
@@ -305,8 +290,7 @@ pub extern "C" fn log_write_enable(out: &mut [u8], at: usize, flow: Flow) -> Wri
 }
 
 // `eventlog::write_record` of a disable.
-#[unsafe(no_mangle)]
-pub extern "C" fn log_write_disable(out: &mut [u8], at: usize, number: u32) -> WriteAnswer
+pub fn log_write_disable(out: &mut [u8], at: usize, number: u32) -> WriteAnswer
     ensures answer { writing_in result ≡ (write_at out.old at (bytes_of (Disable number))).answer }
     ensures output { out.new ≡ (write_at out.old at (bytes_of (Disable number))).output }
 {
@@ -315,8 +299,7 @@ pub extern "C" fn log_write_disable(out: &mut [u8], at: usize, number: u32) -> W
 }
 
 // `eventlog::record_len` of an enable.
-#[unsafe(no_mangle)]
-pub extern "C" fn log_enable_len(flow: Flow) -> usize
+pub fn log_enable_len(flow: Flow) -> usize
     ensures { result ≡ length (bytes_of (Enable flow.number flow.from flow.to)) }
 {
     let event = Event::Enable {
@@ -328,8 +311,7 @@ pub extern "C" fn log_enable_len(flow: Flow) -> usize
 }
 
 // `eventlog::record_len` of a disable.
-#[unsafe(no_mangle)]
-pub extern "C" fn log_disable_len(number: u32) -> usize
+pub fn log_disable_len(number: u32) -> usize
     ensures { result ≡ length (bytes_of (Disable number)) }
 {
     let event = Event::Disable { number: number };
@@ -337,8 +319,7 @@ pub extern "C" fn log_disable_len(number: u32) -> usize
 }
 
 // `report::tally` in a new tracker: the text that the program `tally` prints for these bytes.
-#[unsafe(no_mangle)]
-pub extern "C" fn tally_text(bytes: &[u8], out: &mut [u8]) -> WriteAnswer
+pub fn tally_text(bytes: &[u8], out: &mut [u8]) -> WriteAnswer
     ensures answer { writing_in result ≡ (tally_of bytes.now new_storage out.old).answer }
     ensures output { out.new ≡ (tally_of bytes.now new_storage out.old).output }
 {
