@@ -12,8 +12,9 @@ use Rattle.tagset.specs.declared.TagSet.{TagSet}
 use Rattle.tagset.specs.Set.{single_of}
 use Rattle.state.specs.State.{Storage, State, short_of, bad_size, storage_of, with_sets, no_flow, with_flows}
 use Rattle.state.specs.Valid.{state_order}
-use Rattle.state.specs.IsValid.{IsSized, sized}
-use Rattle.state.specs.Judging.{judged-first}
+use Rattle.state.specs.IsValid.{IsSized}
+use Rattle.state.proofs.IsValid.{sized}
+use Rattle.state.proofs.Judging.{judged-first}
 use Rattle.validity.specs.Lent.{lent-short}
 use Rattle.tagstore.specs.Store.{zero_front}
 use Rattle.tagstore.specs.Starting.{zero-front, own-all}

@@ -8,17 +8,19 @@ use mathlib.Core.List.{List, [], ◌∷◌, ◌++◌}
 use Prim.Native.Nat.{ℕ, zero, suc, ◌+◌, ◌-◌, ◌*◌, ◌≤◌, ◌<◌, min}
 use Rattle.std.proofs.Math.ListN.{length}
 use Rattle.truth.specs.Truth.{iff}
-use Rattle.refusal.specs.Order.{first_of, IsFirst}
+use Rattle.refusal.specs.Order.{first_of}
+use Rattle.refusal.proofs.Order.{IsFirst}
 use Rattle.model.specs.declared.Flow.{Flow}
 use Rattle.model.specs.Model.{edges_of, without, is_enabled}
 use Rattle.model.specs.Closure.{Within}
 use Rattle.tagset.specs.declared.TagSet.{TagSet}
 use Rattle.tagset.specs.Set.{has}
-use Rattle.tagset.specs.Laws.{ext, subset-of-has}
+use Rattle.tagset.proofs.Laws.{ext, subset-of-has}
 use Rattle.state.specs.State.{State, set_at, flows_of, with_flows}
-use Rattle.state.specs.Layout.{Fit64, set-fits}
+use Rattle.state.specs.Layout.{Fit64}
+use Rattle.state.proofs.LayoutLaws.{set-fits}
 use Rattle.state.specs.IsValid.{Usable}
-use Rattle.state.specs.Judging.{usable-first}
+use Rattle.state.proofs.Judging.{usable-first}
 use Rattle.tagstore.specs.Store.{total_of}
 use Rattle.tagstore.specs.Laws.{words-ext}
 use Rattle.flowtable.specs.FlowTable.{place_of, removed_at}
@@ -26,12 +28,12 @@ use Rattle.flowtable.specs.Laws.{appended, appended-flows, without-count, remove
 use Rattle.propagation.specs.Exact.{passed_length, passed-beyond, passed-fits, exact, after_is, pairs-total}
 use Rattle.propagation.specs.Pass.{passes_of, passed, sets_after, pairs_added}
 use Rattle.outcome.specs.Outcome.{decided, stored, propagated, gain_of, changed, enabling, disabling, enable_later, enable_order, enable_of, disable_later, disable_order, disable_of, add_later, add_order, adding, add_of, outcome_of}
-use Rattle.outcome.specs.Refusals.{decided-number, decided-refusal, decided-refused}
-use Rattle.outcome.specs.Propagation.{propagated-has, propagated-fits}
+use Rattle.outcome.proofs.Refusals.{decided-number, decided-refusal, decided-refused}
+use Rattle.outcome.proofs.Propagation.{propagated-has, propagated-fits}
 use Rattle.outcome.specs.Table.{Enables}
-use Rattle.outcome.specs.Stays.{usable-count, propagated-length, propagated-keeps, flows-within, changed-flows, enable-usable}
-use Rattle.outcome.specs.Steps.{enable-accepted}
-use Rattle.outcome.specs.Effects.{gain-total, propagated-beyond}
+use Rattle.outcome.proofs.Stays.{usable-count, propagated-length, propagated-keeps, flows-within, changed-flows, enable-usable}
+use Rattle.outcome.proofs.Steps.{enable-accepted}
+use Rattle.outcome.proofs.Effects.{gain-total, propagated-beyond}
 use Rattle.calls.specs.Unjudged.{appended_to, carrying, apply_enable_of, apply_disable_of, apply_add_of}
 
 -- PASSES AND THE CLOSURE

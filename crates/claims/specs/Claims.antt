@@ -316,7 +316,8 @@ use Rattle.std.proofs.Common.{sym, ap, ◌∙◌, subst, ⊎_elim, arith}
 use mathlib.Mathlib.Logic.Relation.{ReflTransGenᴰ}
 use Rattle.std.specs.Int.Count.{ones}
 use Rattle.truth.specs.Truth.{iff}
-use Rattle.refusal.specs.Order.{first_of, IsFirst}
+use Rattle.refusal.specs.Order.{first_of}
+use Rattle.refusal.proofs.Order.{IsFirst}
 use Rattle.leb128.specs.declared.Encoded.{Encoded}
 use Rattle.leb128.specs.Answer.{refused, wrote, unwritten, writing_of}
 use Rattle.leb128.specs.Number.{IsBytes, overwrite, write_at}
@@ -334,17 +335,22 @@ use Rattle.eventlog.specs.LogLaws.{complete, IsLog, log-read, log-accepted, log-
 use Rattle.model.specs.declared.Flow.{Flow}
 use Rattle.model.specs.Model.{◌∈◌, Event, enable, disable, History, empty, ◌▸◌, enabled, edges_of, Enabled, Enabled*, Flows, Execution, event, exec, configuration, without, greatest, joins, joined, accepted}
 use Rattle.model.specs.Reach.{reaches}
-use Rattle.model.specs.Closure.{Within, reaches-enabled}
-use Rattle.model.specs.Standing.{Standing, standing, without-part, enabled-flow, ends-edge}
-use Rattle.model.specs.Histories.{accepted-last, joins-added, not-joins-same, flows-empty, flows-one, flows-next, accepted-each, accepted-inside, Accepted, Occurs, MayEnable, enable-joins, disable-joins, numbers-rise}
-use Rattle.model.specs.Propositions.{event-changes-nothing, exec-adds, exact-at, proposition-1, proposition-2}
+use Rattle.model.specs.Closure.{Within}
+use Rattle.model.proofs.Closure.{reaches-enabled}
+use Rattle.model.specs.Standing.{Standing}
+use Rattle.model.proofs.Standing.{standing, without-part, enabled-flow, ends-edge}
+use Rattle.model.specs.Histories.{Accepted, Occurs, MayEnable}
+use Rattle.model.proofs.Histories.{accepted-last, joins-added, not-joins-same, flows-empty, flows-one, flows-next, accepted-each, accepted-inside, enable-joins, disable-joins, numbers-rise}
+use Rattle.model.proofs.Propositions.{event-changes-nothing, exec-adds, exact-at, proposition-1, proposition-2}
 use Rattle.tagset.specs.declared.TagSet.{TagSet}
 use Rattle.tagset.specs.Set.{has, bit_at, empty_set, size_of, IsWords}
-use Rattle.tagset.specs.Laws.{size-words}
+use Rattle.tagset.proofs.Laws.{size-words}
 use Rattle.state.specs.State.{Storage, State, state_of, bad_size, set_at, policy_count, policy_at, flows_of}
 use Rattle.state.specs.Valid.{valid_of}
-use Rattle.state.specs.Layout.{Fit64, set-bit, flows-first, flows-count}
-use Rattle.state.specs.IsValid.{IsSized, sized, IsValid, valid, Usable}
+use Rattle.state.specs.Layout.{Fit64}
+use Rattle.state.proofs.LayoutLaws.{set-bit, flows-first, flows-count}
+use Rattle.state.specs.IsValid.{IsSized, IsValid, Usable}
+use Rattle.state.proofs.IsValid.{sized, valid}
 use Rattle.tagstore.specs.Store.{total_of}
 use Rattle.propagation.specs.Pass.{pass, adds, passed, passes_of, pass_count, sets_after, pairs_added}
 use Rattle.propagation.specs.Exact.{pass-has, adds-iff, count-is, passes-some, passes-add, passes-last}
@@ -355,14 +361,18 @@ use Rattle.calls.specs.Unjudged.{apply_enable_of, apply_disable_of}
 use Rattle.calls.specs.UnjudgedLaws.{passes-propagate, passes-gain, apply-enable-refusal, apply-enable-refused, apply-disable-refusal, apply-disable-refused, apply-enable, apply-disable}
 use Rattle.claims.specs.Running.{leaving, StartGave, CallGave, TagsGave, SizeGave, LegalGave, RankGave, RankWrote, running, ReplayGave, with_new_table, TallyAnswered, TallyWrote, TallyLeft, StartDoes, start-does, EnableDoes, enable-does, DisableDoes, disable-does, AddDoes, add-does, Called, called_is, called_of, called_on, tags-given, size-given, legal-given, rank-given, replay-left, tally-left, replay-as-calls, tally-as-calls, replay-begins, tally-begins}
 use Rattle.outcome.specs.Outcome.{Outcome, start_order, enable_later, disable_later, start_of, propagated, gain_of, enable_of, disable_of, add_of, Call, ask, add, order_of, outcome_of, events_of, after, configuration_of}
-use Rattle.outcome.specs.Refusals.{start-refusal, start-refused, call-refusal, call-refused}
-use Rattle.outcome.specs.Table.{StartAnswers, start-answers, EnableAnswers, enable-answers, DisableAnswers, disable-answers, AddAnswers, add-answers}
-use Rattle.outcome.specs.Policies.{PolicyAdded}
-use Rattle.outcome.specs.Stays.{settled}
-use Rattle.outcome.specs.Steps.{start-makes-usable, call-leaves-usable, call-keeps, usable-answers, Sentence, propagated-sentence, enable-sentence, disable-sentence, IsStarted, start-is-started, FlowsChanged, enable-flows, disable-flows, add-so}
-use Rattle.front.specs.Front.{lent_front, front_of, outcome_beyond, replay_beyond, start-front, call-front, tags-front, size-front, legal-front, rank-front, replay-front}
-use Rattle.outcome.specs.Effects.{start_fits, call_fits, start-gains-nothing, SameBeyond, start-beyond, call-beyond, list-beyond, disable-tags, add-tags, gain-counted, enable-gain, disable-gain, add-gain}
-use Rattle.outcome.specs.Follows.{Follows, configuration-has, accepted-joins}
+use Rattle.outcome.proofs.Refusals.{start-refusal, start-refused, call-refusal, call-refused}
+use Rattle.outcome.specs.Table.{StartAnswers, EnableAnswers, DisableAnswers, AddAnswers}
+use Rattle.outcome.proofs.Table.{start-answers, enable-answers, disable-answers, add-answers}
+use Rattle.outcome.proofs.Policies.{PolicyAdded}
+use Rattle.outcome.proofs.Stays.{settled}
+use Rattle.outcome.specs.Steps.{Sentence, IsStarted, FlowsChanged}
+use Rattle.outcome.proofs.Steps.{start-makes-usable, call-leaves-usable, call-keeps, usable-answers, propagated-sentence, enable-sentence, disable-sentence, start-is-started, enable-flows, disable-flows, add-so}
+use Rattle.front.specs.Front.{lent_front, front_of, outcome_beyond, replay_beyond}
+use Rattle.front.proofs.Front.{start-front, call-front, tags-front, size-front, legal-front, rank-front, replay-front}
+use Rattle.outcome.specs.Effects.{SameBeyond}
+use Rattle.outcome.proofs.Effects.{start_fits, call_fits, start-gains-nothing, start-beyond, call-beyond, list-beyond, disable-tags, add-tags, gain-counted, enable-gain, disable-gain, add-gain}
+use Rattle.outcome.proofs.Follows.{Follows, configuration-has, accepted-joins}
 use Rattle.question.specs.declared.Tags.{Tags}
 use Rattle.question.specs.declared.Size.{Size}
 use Rattle.question.specs.declared.Legal.{Legal}
@@ -386,8 +396,10 @@ use Rattle.decimal.specs.Decimal.{decimal_of, number_of}
 use Rattle.decimal.proofs.Laws.{decimal-last, decimal-value, decimal_digit, decimal-front}
 use Rattle.tallytext.specs.Text.{events_word, gain_word, refused_word, at_word, tags_rising, line_of, lines_of, events_line, refused_line, text_of, new_storage, printed_of, left_of, tally_of}
 use Rattle.report.specs.declared.Tallied.{Tallied}
-use Rattle.tallytext.specs.Words.{line_with, line-words, events-line-words, refused-line-words, no_lines, line-by-line}
-use Rattle.tallytext.specs.Laws.{tags-members, tags-rising, tags-count, IsLine, line-ends, events-line-ends, refused-line-ends, text-of-long-input, text-of-unusable-n, text-of-complete-replay, text-of-refused-replay, left-of-replay, left-of-long-input, new-storage-sized, tally-short, tally-fits, tally-suffices}
+use Rattle.tallytext.specs.Words.{line_with}
+use Rattle.tallytext.proofs.Words.{line-words, events-line-words, refused-line-words, no_lines, line-by-line}
+use Rattle.tallytext.specs.Laws.{IsLine, text-of-unusable-n, text-of-complete-replay, text-of-refused-replay, left-of-replay}
+use Rattle.tallytext.proofs.Laws.{tags-members, tags-rising, tags-count, line-ends, events-line-ends, refused-line-ends, text-of-long-input, left-of-long-input, new-storage-sized, tally-short, tally-fits, tally-suffices}
 use Rattle.claims.specs.Permission.{takes, given_to, SameSets, Known, takes-exactly-if, list-follows, policies-are-those-given, accepted-exactly-if-taken, questions-are-answered, others-are-no-container, rank-is-answered, legal-exactly-if-given, same-set-twice-takes-two-places, a-fifth-is-not-taken}
 
 -- THE DEFINITIONS: model/specs/Model.antt (containers, flows, executions; no word of a tracker) and Reach.antt; state/specs/State.antt and

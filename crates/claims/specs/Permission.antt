@@ -14,19 +14,19 @@ use borrow.Table.Steps.{cases}
 use Rattle.refusal.specs.Order.{first_of}
 use Rattle.truth.specs.Truth.{and-iff, not_iff, lt_iff, eq_iff}
 use Rattle.model.specs.Model.{◌∈◌, Event, enable, disable, empty, Flows, accepted}
-use Rattle.model.specs.Closure.{tabulate-at}
+use Rattle.model.proofs.Closure.{tabulate-at}
 use Rattle.tagset.specs.declared.TagSet.{TagSet}
 use Rattle.tagset.specs.Set.{has, empty_set, exceeds_of, size_of}
-use Rattle.tagset.specs.Laws.{not-exceeds, not-exceeds-of-has}
+use Rattle.tagset.proofs.Laws.{not-exceeds, not-exceeds-of-has}
 use Rattle.state.specs.State.{Storage, State, set_at, policy_count}
 use Rattle.state.specs.IsValid.{Usable}
 use Rattle.outcome.specs.Outcome.{start_of, add_of, Call, ask, add, outcome_of, events_of, after}
-use Rattle.outcome.specs.Refusals.{call-cases}
+use Rattle.outcome.proofs.Refusals.{call-cases}
 use Rattle.outcome.specs.Table.{Adds}
-use Rattle.outcome.specs.Policies.{PolicyAdded, add-accepted}
-use Rattle.outcome.specs.Steps.{call-keeps, start-is-started, enable-flows, disable-flows, add-so}
-use Rattle.outcome.specs.Effects.{call-containers}
-use Rattle.outcome.specs.Follows.{Follows, configuration-has, calls-follow, begun-follows}
+use Rattle.outcome.proofs.Policies.{PolicyAdded, add-accepted}
+use Rattle.outcome.proofs.Steps.{call-keeps, start-is-started, enable-flows, disable-flows, add-so}
+use Rattle.outcome.proofs.Effects.{call-containers}
+use Rattle.outcome.proofs.Follows.{Follows, configuration-has, calls-follow, begun-follows}
 use Rattle.question.specs.Question.{Asked, question_order, tags_of, size_asked, policies_of, is_legal, legal_of}
 use Rattle.question.specs.Replies.{told}
 use Rattle.question.specs.Laws.{legal-exactly-if, policy-count, asked-number, asked-told, QuestionAnswers, no-such-container, answered, question-answers}

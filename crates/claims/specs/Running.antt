@@ -53,11 +53,14 @@ use Rattle.report.specs.declared.Tallied.{Tallied}
 use Rattle.tallytext.specs.Text.{text_of, left_of, tally_of}
 use Rattle.tallytext.specs.Laws.{left-of-replay}
 use Rattle.outcome.specs.Outcome.{Outcome, no_header, start_of, gain_of, enable_of, disable_of, add_of, Call, ask, add, outcome_of, after}
-use Rattle.outcome.specs.Refusals.{start-refused, call-refused, call-unaccepted}
-use Rattle.outcome.specs.Table.{StartAnswers, start-answers, EnableAnswers, enable-answers, DisableAnswers, disable-answers, AddAnswers, add-answers, bad-size, invalid-state, no-such-from, no-such-to, self-flow, stale-number, table-full, not-enabled, no-such-container, unknown-tag, policy-full, accepted}
-use Rattle.outcome.specs.Policies.{PolicyAdded}
-use Rattle.outcome.specs.Steps.{start-makes-usable, call-leaves-usable, call-keeps, Sentence, enable-sentence, disable-sentence, IsStarted, start-is-started, FlowsChanged, enable-flows, disable-flows, add-so}
-use Rattle.outcome.specs.Effects.{SameBeyond, disable-tags, add-tags, enable-gain, disable-gain, add-gain, start-beyond, call-beyond, start-gains-nothing, gain-counted, start_fits, call_fits}
+use Rattle.outcome.proofs.Refusals.{start-refused, call-refused, call-unaccepted}
+use Rattle.outcome.specs.Table.{StartAnswers, EnableAnswers, DisableAnswers, AddAnswers, bad-size, invalid-state, no-such-from, no-such-to, self-flow, stale-number, table-full, not-enabled, no-such-container, unknown-tag, policy-full, accepted}
+use Rattle.outcome.proofs.Table.{start-answers, enable-answers, disable-answers, add-answers}
+use Rattle.outcome.proofs.Policies.{PolicyAdded}
+use Rattle.outcome.specs.Steps.{Sentence, IsStarted, FlowsChanged}
+use Rattle.outcome.proofs.Steps.{start-makes-usable, call-leaves-usable, call-keeps, enable-sentence, disable-sentence, start-is-started, enable-flows, disable-flows, add-so}
+use Rattle.outcome.specs.Effects.{SameBeyond}
+use Rattle.outcome.proofs.Effects.{disable-tags, add-tags, enable-gain, disable-gain, add-gain, start-beyond, call-beyond, start-gains-nothing, gain-counted, start_fits, call_fits}
 
 -- WHAT THE CONTRACTS SAY, of what a call gave back and of the lists as it left them: an equation with the call's
 -- definition. Tie.antt: the clauses of each call are this, and nothing is required. So a hypothesis of the claims on

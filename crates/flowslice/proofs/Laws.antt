@@ -10,7 +10,7 @@ use Rattle.std.proofs.Math.Seq.{take-append_seam}
 use borrow.Table.Steps.{cases}
 use Rattle.truth.specs.Truth.{and_both}
 use Rattle.model.specs.declared.Flow.{Flow}
-use Rattle.model.specs.Closure.{tabulate-length, tabulate-at}
+use Rattle.model.proofs.Closure.{tabulate-length, tabulate-at}
 use Rattle.state.specs.State.{no_flow}
 use Rattle.flowslice.specs.Slice.{loaded_from, stored_in}
 

@@ -1,9 +1,4 @@
 pub mod Outcome
-pub mod Refusals
-pub mod Propagation
 pub mod Table
-pub mod Stays
-pub mod Policies
 pub mod Steps
 pub mod Effects
-pub mod Follows

@@ -19,12 +19,14 @@ use Rattle.truth.specs.Truth.{and_both, both-and, or-and-iff, and-iff, lt_iff}
 use Rattle.model.specs.declared.Flow.{Flow}
 use Rattle.model.specs.Model.{◌∈◌, edges_of}
 use Rattle.model.specs.Reach.{reaches}
-use Rattle.model.specs.Closure.{Within, reaches-sound, reaches-complete}
+use Rattle.model.specs.Closure.{Within}
+use Rattle.model.proofs.Closure.{reaches-sound, reaches-complete}
 use Rattle.tagset.specs.declared.TagSet.{TagSet}
 use Rattle.tagset.specs.Set.{has, union_of, subset_of, size_of}
-use Rattle.tagset.specs.Laws.{union-has, union-words, subset-of-has, not-subset-tag, subset-same-size, size_mono, size-union}
+use Rattle.tagset.proofs.Laws.{union-has, union-words, subset-of-has, not-subset-tag, subset-same-size, size_mono, size-union}
 use Rattle.state.specs.State.{set_at}
-use Rattle.state.specs.Layout.{Fit64, set-fits}
+use Rattle.state.specs.Layout.{Fit64}
+use Rattle.state.proofs.LayoutLaws.{set-fits}
 use Rattle.tagstore.specs.Store.{put_set, total_of}
 use Rattle.tagstore.specs.Laws.{put-length, total-le}
 use Rattle.tagstore.proofs.Put.{put_has, put-other-set, put-beyond, put-fits, total-put}

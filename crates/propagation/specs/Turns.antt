@@ -11,11 +11,12 @@ use Rattle.std.proofs.Math.Seq.{paste-suc}
 use borrow.Table.Steps.{cases}
 use Rattle.model.specs.declared.Flow.{Flow}
 use Rattle.model.specs.Model.{edges, edges_of}
-use Rattle.tagset.specs.Below.{none-counted}
+use Rattle.tagset.proofs.Below.{none-counted}
 use Rattle.tagset.specs.Set.{count_below, has, union_of, subset_of, size_of}
-use Rattle.tagset.specs.Laws.{has-lt, subset-of-has, union-absorbs}
+use Rattle.tagset.proofs.Laws.{has-lt, subset-of-has, union-absorbs}
 use Rattle.state.specs.State.{set_at}
-use Rattle.state.specs.Layout.{Fit64, set-fits}
+use Rattle.state.specs.Layout.{Fit64}
+use Rattle.state.proofs.LayoutLaws.{set-fits}
 use Rattle.tagstore.specs.Store.{put_set}
 use Rattle.tagstore.specs.Laws.{set-cong, total-le}
 use Rattle.tagstore.proofs.Put.{put_same, put-other-set}

@@ -8,7 +8,7 @@ use Rattle.tagset.specs.declared.TagSet.{TagSet}
 use Rattle.tagset.specs.Set.{empty_set}
 use Rattle.state.specs.State.{State, set_at}
 use Rattle.state.specs.Valid.{state_order}
-use Rattle.state.specs.Judging.{judged-usable, judged-first, usable-first}
+use Rattle.state.proofs.Judging.{judged-usable, judged-first, usable-first}
 use Rattle.question.specs.declared.Asking.{Asking}
 use Rattle.question.specs.declared.Tags.{Tags}
 use Rattle.question.specs.Question.{Asked, question_later, question_order, tags_of}

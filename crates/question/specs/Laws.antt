@@ -11,16 +11,18 @@ use Prim.Native.Nat.{ℕ, zero, suc, ◌≤◌, ◌<◌}
 use Rattle.std.proofs.Math.Decide.{dec_lt}
 use native.Mathlib.Omega.{arith}
 use borrow.Table.Steps.{cases}
-use Rattle.refusal.specs.Order.{first_of, by_rows}
+use Rattle.refusal.specs.Order.{first_of}
+use Rattle.refusal.proofs.Order.{by_rows}
 use Rattle.truth.specs.Truth.{or-either, left_or, right_or}
 use Rattle.model.specs.Model.{◌∈◌}
 use Rattle.model.specs.Reach.{tabulate}
-use Rattle.model.specs.Closure.{tabulate-length}
+use Rattle.model.proofs.Closure.{tabulate-length}
 use Rattle.tagset.specs.declared.TagSet.{TagSet}
 use Rattle.tagset.specs.Set.{has, empty_set, subset_of, size_of}
 use Rattle.state.specs.State.{State, set_at, policy_count, policy_at}
-use Rattle.state.specs.IsValid.{IsSized, IsValid, Usable, subset_iff}
-use Rattle.state.specs.Judging.{by_state, short-first, invalid-first, usable-first}
+use Rattle.state.specs.IsValid.{IsSized, IsValid, Usable}
+use Rattle.state.proofs.IsValid.{subset_iff}
+use Rattle.state.proofs.Judging.{by_state, short-first, invalid-first, usable-first}
 use Rattle.question.specs.Question.{Asked, question_later, question_order, asked, tags_of, size_asked, any_of, policies_of, is_legal, legal_of}
 use Rattle.question.specs.Replies.{told, untold}
 

@@ -2,4 +2,3 @@ pub mod State
 pub mod Valid
 pub mod Layout
 pub mod IsValid
-pub mod Judging

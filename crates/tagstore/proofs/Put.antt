@@ -8,8 +8,8 @@ use Rattle.std.proofs.Math.Seq.{get_or-set_same, get_or-set_other}
 use Rattle.std.proofs.lemmas.List.{set-get_or}
 use Rattle.tagset.specs.declared.TagSet.{TagSet}
 use Rattle.tagset.specs.Set.{bit_at, word_at, has, has_w, size_of, IsWords}
-use Rattle.tagset.specs.Word.{each_word}
-use Rattle.tagset.specs.Below.{count-cong}
+use Rattle.tagset.proofs.Word.{each_word}
+use Rattle.tagset.proofs.Below.{count-cong}
 use Rattle.model.specs.Reach.{tabulate}
 use Rattle.state.specs.State.{set_at, with_sets}
 use Rattle.state.specs.Layout.{Fit64}

@@ -9,7 +9,7 @@ use Rattle.std.proofs.Math.Decide.{dec_lt}
 use Rattle.std.proofs.Math.ListN.{length-set}
 use Rattle.std.proofs.lemmas.Bool.{lt-leb}
 use Rattle.tagset.specs.declared.TagSet.{TagSet}
-use Rattle.tagset.specs.Laws.{size-le}
+use Rattle.tagset.proofs.Laws.{size-le}
 use Rattle.state.specs.State.{set_at}
 use Rattle.tagstore.specs.Store.{load_of, put_set, store_of, total_of}
 

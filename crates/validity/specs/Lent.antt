@@ -5,7 +5,7 @@ use Rattle.std.proofs.Math.Logic.{by_cases}
 use Rattle.std.proofs.Math.Decide.{dec_lt}
 use Rattle.model.specs.declared.Flow.{Flow}
 use Rattle.state.specs.State.{storage_of, short_of, bad_size}
-use Rattle.state.specs.IsValid.{sized, bad-size-short}
+use Rattle.state.proofs.IsValid.{sized, bad-size-short}
 
 -- the least of a number and b is below b exactly where the number is
 pub least-below : (a b : ℕ) → ltb (min a b) b ≡ ltb a b

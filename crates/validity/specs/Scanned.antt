@@ -7,15 +7,17 @@ use borrow.Table.Steps.{cases}
 use Rattle.truth.specs.Truth.{iff, and_both, both-and, and-iff, not_iff, le_iff, lt_iff, ne_iff}
 use Rattle.model.specs.declared.Flow.{Flow}
 use Rattle.model.specs.Model.{◌∈◌}
-use Rattle.model.specs.Standing.{edge_of, of-edge}
+use Rattle.model.proofs.Standing.{edge_of, of-edge}
 use Rattle.tagset.specs.declared.TagSet.{TagSet}
-use Rattle.tagset.specs.Below.{all-at}
-use Rattle.tagset.specs.Laws.{empty-has, subset-of-has, subset-refl, subset-antisym, exceeds-below, not-exceeds, not-exceeds-of-has, empty-words}
+use Rattle.tagset.proofs.Below.{all-at}
+use Rattle.tagset.proofs.Laws.{empty-has, subset-of-has, subset-refl, subset-antisym, exceeds-below, not-exceeds, not-exceeds-of-has, empty-words}
 use Rattle.tagset.specs.Set.{has, empty_set, below_of, all_below, subset_of}
-use Rattle.tagset.specs.Word.{each_word}
+use Rattle.tagset.proofs.Word.{each_word}
 use Rattle.state.specs.declared.Header.{Header}
-use Rattle.state.specs.IsValid.{IsSized, IsValid, Rising, ProperEnds, unused-iff, valid, all-below-iff, subset_iff}
-use Rattle.state.specs.Layout.{Fit64, set-fits}
+use Rattle.state.specs.IsValid.{IsSized, IsValid, Rising, ProperEnds}
+use Rattle.state.proofs.IsValid.{unused-iff, valid, all-below-iff, subset_iff}
+use Rattle.state.specs.Layout.{Fit64}
+use Rattle.state.proofs.LayoutLaws.{set-fits}
 use Rattle.state.specs.State.{State, set_at, flows_of}
 use Rattle.state.specs.Valid.{all_of, valid_of}
 use Rattle.validity.specs.Scan.{policies_valid, containers_valid, flow_valid, flows_valid, records_zero}

@@ -2,7 +2,7 @@
 use mathlib.Core.Path.{sym, ◌∙◌}
 use lib.ListN.{take}
 use Rattle.state.specs.State.{State, state_of}
-use Rattle.state.specs.Judging.{judged-usable}
+use Rattle.state.proofs.Judging.{judged-usable}
 use Rattle.calls.specs.UnjudgedLaws.{apply-add}
 use Rattle.calls.specs.Judged.{add-judged}
 use Rattle.calls.proofs.add_policy.Goals as goal

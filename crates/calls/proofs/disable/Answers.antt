@@ -6,7 +6,7 @@ use lib.ListN.{length, take}
 use borrow.Author.Rules.{rules}
 use Rattle.model.specs.declared.Flow.{Flow}
 use Rattle.state.specs.State.{State, state_of}
-use Rattle.state.specs.Judging.{judged-usable}
+use Rattle.state.proofs.Judging.{judged-usable}
 use Rattle.flowtable.specs.FlowTable.{place_of}
 use Rattle.calls.specs.Unjudged.{apply_disable_of}
 use Rattle.calls.specs.UnjudgedLaws.{apply-disable}

@@ -6,7 +6,7 @@ use borrow.Author.Rules.{rules}
 use Rattle.decimal.specs.Decimal.{decimal_of}
 use Rattle.decimal.proofs.Laws.{decimal-20}
 use Rattle.report.specs.Put.{put-append}
-use Rattle.tallytext.specs.Pieces.{spaced-one}
+use Rattle.tallytext.proofs.Pieces.{spaced-one}
 use Rattle.report.proofs.put_pair.Statement.{statement}
 use Rattle.report.proofs.put_pair.Tie as tie
 

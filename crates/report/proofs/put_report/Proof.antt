@@ -7,7 +7,7 @@ use lib.Seq.{get_or-take, length-take-le}
 use borrow.Author.Rules.{rules}
 use Rattle.tallytext.specs.Text.{lines_of}
 use Rattle.report.specs.Put.{put-append}
-use Rattle.tallytext.specs.Pieces.{lines-length}
+use Rattle.tallytext.proofs.Pieces.{lines-length}
 use Rattle.report.proofs.put_report.Statement.{statement}
 use Rattle.report.proofs.put_report.Tie as tie
 

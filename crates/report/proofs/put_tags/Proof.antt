@@ -10,7 +10,8 @@ use Rattle.decimal.specs.Decimal.{decimal_of}
 use Rattle.decimal.proofs.Laws.{decimal-3}
 use Rattle.tallytext.specs.Text.{space, spaced, tags_rising}
 use Rattle.report.specs.Put.{Putting, putting-begun, putting-next, putting-ended}
-use Rattle.tallytext.specs.Pieces.{tags_from, tag_in, tag-out, tags-end}
+use Rattle.tallytext.specs.Pieces.{tags_from}
+use Rattle.tallytext.proofs.Pieces.{tag_in, tag-out, tags-end}
 use Rattle.report.proofs.put_tags.Statement.{statement}
 use Rattle.report.proofs.put_tags.Tie as tie
 

@@ -1,6 +1,6 @@
 -- `low_ones` meets its contract: no ones, all 64, or as many as n - first says. Assumes nothing.
 use borrow.Author.Rules.{rules}
-use Rattle.tagset.specs.Word.{low-none, low-all, low-some, shifted-pos}
+use Rattle.tagset.proofs.Word.{low-none, low-all, low-some, shifted-pos}
 use Rattle.tagset.proofs.low_ones.Goals as goal
 
 pub returns-then-n-first : goal.returns-then-n-first

@@ -4,7 +4,8 @@ use Rattle.model.specs.declared.Flow.{Flow}
 use Rattle.state.specs.State.{state_of}
 use Rattle.outcome.specs.Outcome.{add_of}
 use Rattle.calls.specs.Replies.{left_by}
-use Rattle.front.specs.Front.{outcome_beyond, add-front}
+use Rattle.front.specs.Front.{outcome_beyond}
+use Rattle.front.proofs.Front.{add-front}
 use Rattle.tracker.specs.Lent.{table_kept, same_outcome}
 use Rattle.tracker.proofs.add_policy.Goals as goal
 

@@ -4,7 +4,8 @@ use Rattle.model.specs.declared.Flow.{Flow}
 use Rattle.state.specs.State.{state_of}
 use Rattle.outcome.specs.Outcome.{disable_of}
 use Rattle.calls.specs.Replies.{left_by}
-use Rattle.front.specs.Front.{outcome_beyond, disable-front}
+use Rattle.front.specs.Front.{outcome_beyond}
+use Rattle.front.proofs.Front.{disable-front}
 use Rattle.tracker.specs.Lent.{table-stored, same_outcome}
 use Rattle.tracker.proofs.disable.Goals as goal
 

@@ -3,7 +3,7 @@ use Rattle.std.specs.Prelude.{List}
 use Rattle.model.specs.declared.Flow.{Flow}
 use Rattle.state.specs.State.{state_of}
 use Rattle.question.specs.Question.{legal_of}
-use Rattle.front.specs.Front.{legal-front}
+use Rattle.front.proofs.Front.{legal-front}
 use Rattle.tracker.specs.Lent.{same_answer}
 use Rattle.tracker.proofs.is_legal.Goals as goal
 

@@ -4,7 +4,7 @@ use Rattle.std.proofs.Common.{ap}
 use Rattle.model.specs.declared.Flow.{Flow}
 use Rattle.state.specs.State.{state_of}
 use Rattle.ranking.specs.Ranking.{Ranking, rank_of}
-use Rattle.front.specs.Front.{rank-front}
+use Rattle.front.proofs.Front.{rank-front}
 use Rattle.tracker.specs.Lent.{same_answer}
 use Rattle.tracker.proofs.rank.Goals as goal
 

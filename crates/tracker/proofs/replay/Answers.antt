@@ -4,7 +4,8 @@ use Rattle.model.specs.declared.Flow.{Flow}
 use Rattle.state.specs.State.{storage_of}
 use Rattle.replay.specs.Replay.{replay_of}
 use Rattle.replay.specs.Replies.{replay_by}
-use Rattle.front.specs.Front.{replay_beyond, replay-front}
+use Rattle.front.specs.Front.{replay_beyond}
+use Rattle.front.proofs.Front.{replay-front}
 use Rattle.tracker.specs.Lent.{table-stored, same_outcome}
 use Rattle.tracker.proofs.replay.Goals as goal
 

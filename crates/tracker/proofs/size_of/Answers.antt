@@ -3,7 +3,7 @@ use Rattle.std.specs.Prelude.{List}
 use Rattle.model.specs.declared.Flow.{Flow}
 use Rattle.state.specs.State.{state_of}
 use Rattle.question.specs.Question.{size_asked}
-use Rattle.front.specs.Front.{size-front}
+use Rattle.front.proofs.Front.{size-front}
 use Rattle.tracker.specs.Lent.{same_answer}
 use Rattle.tracker.proofs.size_of.Goals as goal
 

@@ -4,7 +4,8 @@ use Rattle.model.specs.declared.Flow.{Flow}
 use Rattle.state.specs.State.{storage_of}
 use Rattle.outcome.specs.Outcome.{start_of}
 use Rattle.calls.specs.Replies.{left_by}
-use Rattle.front.specs.Front.{outcome_beyond, start-front}
+use Rattle.front.specs.Front.{outcome_beyond}
+use Rattle.front.proofs.Front.{start-front}
 use Rattle.tracker.specs.Lent.{table-stored, same_outcome}
 use Rattle.tracker.proofs.start.Goals as goal
 

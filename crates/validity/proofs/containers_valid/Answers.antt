@@ -7,7 +7,7 @@ use lib.ListN.{get_or}
 use borrow.Author.Count.{below_none, below_more}
 use borrow.Author.Rules.{rules}
 use Rattle.truth.specs.Truth.{both-and}
-use Rattle.tagset.specs.Below.{all-make}
+use Rattle.tagset.proofs.Below.{all-make}
 use Rattle.tagset.specs.Set.{has, below_of, subset_of}
 use Rattle.state.specs.State.{set_at}
 use Rattle.validity.specs.Scan.{policies_valid, containers_valid}

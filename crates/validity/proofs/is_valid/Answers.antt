@@ -6,7 +6,8 @@ use native.Mathlib.Omega.{arith}
 use lib.ListN.{length}
 use borrow.Author.Rules.{rules}
 use borrow.Author.Tests.{le-leb, lt-leb}
-use Rattle.state.specs.IsValid.{IsSized, sized, bad-size-short}
+use Rattle.state.specs.IsValid.{IsSized}
+use Rattle.state.proofs.IsValid.{sized, bad-size-short}
 use Rattle.state.specs.Layout.{Fit64}
 use Rattle.state.specs.State.{State, state_of, flows_of}
 use Rattle.state.specs.Valid.{valid_of}

@@ -7,7 +7,7 @@ use borrow.Author.Rules.{rules}
 use Rattle.model.specs.declared.Flow.{Flow}
 use Rattle.state.specs.State.{State, bad_size, state_of}
 use Rattle.state.specs.Valid.{valid_of}
-use Rattle.state.specs.IsValid.{sized}
+use Rattle.state.proofs.IsValid.{sized}
 use Rattle.validity.specs.Lent.{lent-whole, lent-short, lent-right}
 use Rattle.validity.proofs.judge.Goals as goal
 use Rattle.validity.proofs.judge.Goals.{After-bad_size}

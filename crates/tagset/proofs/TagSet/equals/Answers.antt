@@ -4,7 +4,7 @@ use mathlib.Core.Path.{sym}
 use lib.Dec.{lit<}
 use borrow.Author.Rules.{rules}
 use Rattle.tagset.specs.Set.{IsWords}
-use Rattle.tagset.specs.Word.{words_of, same-tested}
+use Rattle.tagset.proofs.Word.{words_of, same-tested}
 use Rattle.tagset.proofs.TagSet.equals.Goals as goal
 use Rattle.tagset.proofs.TagSet.equals.Goals.{Start}
 

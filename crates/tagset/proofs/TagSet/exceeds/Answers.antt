@@ -3,7 +3,7 @@ use mathlib.Core.Bool.{not}
 use mathlib.Core.Path.{sym, ap, ◌∙◌}
 use borrow.Author.Rules.{rules}
 use Rattle.tagset.specs.Set.{subset_of}
-use Rattle.tagset.specs.Laws.{exceeds-below}
+use Rattle.tagset.proofs.Laws.{exceeds-below}
 use Rattle.tagset.proofs.TagSet.exceeds.Goals as goal
 
 pub returns : goal.returns

@@ -5,7 +5,7 @@ use lib.Bits.{and_le_l}
 use lib.Dec.{lit<}
 use borrow.Author.Rules.{rules}
 use Rattle.tagset.specs.Set.{IsWords}
-use Rattle.tagset.specs.Word.{words_of, subset-tested}
+use Rattle.tagset.proofs.Word.{words_of, subset-tested}
 use Rattle.tagset.proofs.TagSet.is_subset.Goals as goal
 use Rattle.tagset.proofs.TagSet.is_subset.Goals.{Start}
 

@@ -2,8 +2,8 @@
 use mathlib.Core.Path.{sym}
 use borrow.Author.Rules.{rules}
 use Rattle.tagset.specs.Set.{empty_set}
-use Rattle.tagset.specs.Word.{single-made}
-use Rattle.tagset.specs.Laws.{single-past}
+use Rattle.tagset.proofs.Word.{single-made}
+use Rattle.tagset.proofs.Laws.{single-past}
 use Rattle.tagset.proofs.TagSet.single.Goals as goal
 
 pub returns-then-tag-lt256 : goal.returns-then-tag-lt256

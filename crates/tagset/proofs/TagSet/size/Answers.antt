@@ -8,8 +8,8 @@ use lib.ListN.{get_or}
 use lib.Dec.{lit<}
 use borrow.Author.Rules.{rules}
 use Rattle.tagset.specs.Set.{IsWords}
-use Rattle.tagset.specs.Word.{words_of}
-use Rattle.tagset.specs.Laws.{size-words}
+use Rattle.tagset.proofs.Word.{words_of}
+use Rattle.tagset.proofs.Laws.{size-words}
 use Rattle.tagset.proofs.TagSet.size.Goals as goal
 use Rattle.tagset.proofs.TagSet.size.Goals.{Start}
 

@@ -7,7 +7,8 @@ use borrow.Table.Steps.{cases}
 use Rattle.refusal.specs.Order.{first_of}
 use Rattle.state.specs.State.{Storage, State, bad_size}
 use Rattle.state.specs.Valid.{valid_of, state_order}
-use Rattle.state.specs.IsValid.{IsSized, sized, IsValid, valid, Usable}
+use Rattle.state.specs.IsValid.{IsSized, IsValid, Usable}
+use Rattle.state.proofs.IsValid.{sized, valid}
 
 -- where a size is not right, the test says so
 pub too_short : (n : ℕ) (lent : Storage) → ¬ IsSized n lent → bad_size n lent ≡ true

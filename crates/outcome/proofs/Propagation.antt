@@ -8,10 +8,11 @@ use Rattle.model.specs.Model.{edges_of}
 use Rattle.model.specs.Reach.{reaches}
 use Rattle.tagset.specs.declared.TagSet.{TagSet}
 use Rattle.tagset.specs.Set.{has, union_of, any_below, IsWords}
-use Rattle.tagset.specs.Below.{any-find, any-make}
-use Rattle.tagset.specs.Laws.{union-has, empty-has, empty-words, union-words}
+use Rattle.tagset.proofs.Below.{any-find, any-make}
+use Rattle.tagset.proofs.Laws.{union-has, empty-has, empty-words, union-words}
 use Rattle.state.specs.State.{set_at}
-use Rattle.state.specs.Layout.{set-written, Fit64, set-fits, sets-fit}
+use Rattle.state.specs.Layout.{Fit64}
+use Rattle.state.proofs.LayoutLaws.{set-written, set-fits, sets-fit}
 use Rattle.outcome.specs.Outcome.{union_over, propagated}
 
 -- a tag is in the united sets exactly if it is in one of them

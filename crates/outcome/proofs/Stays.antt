@@ -7,16 +7,18 @@ use mathlib.Mathlib.Logic.Relation.{ReflTransGenᴰ}
 use borrow.Table.Steps.{cases}
 use Rattle.model.specs.declared.Flow.{Flow}
 use Rattle.model.specs.Model.{◌∈◌, edges_of, without, keep}
-use Rattle.model.specs.Closure.{Within, reaches-sound, reaches-complete}
-use Rattle.model.specs.Standing.{without-part, edge_of, of-edge, within-flows}
+use Rattle.model.specs.Closure.{Within}
+use Rattle.model.proofs.Closure.{reaches-sound, reaches-complete}
+use Rattle.model.proofs.Standing.{without-part, edge_of, of-edge, within-flows}
 use Rattle.tagset.specs.Set.{has, single_of}
-use Rattle.tagset.specs.Laws.{single-has}
+use Rattle.tagset.proofs.Laws.{single-has}
 use Rattle.state.specs.State.{Storage, State, set_at, flows_of, with_flows}
-use Rattle.state.specs.Layout.{flows-count, set-written, sets-length, front_length, front_at, flows-length, flows-taken, flows-unused}
-use Rattle.state.specs.IsValid.{IsSized, Rising, unused-iff, ProperEnds, IsValid, Usable}
+use Rattle.state.proofs.LayoutLaws.{flows-count, set-written, sets-length, front_length, front_at, flows-length, flows-taken, flows-unused}
+use Rattle.state.specs.IsValid.{IsSized, Rising, ProperEnds, IsValid, Usable}
+use Rattle.state.proofs.IsValid.{unused-iff}
 use Rattle.outcome.specs.Outcome.{started, propagated, changed, enabling, disabling}
 use Rattle.outcome.specs.Table.{Enables}
-use Rattle.outcome.specs.Propagation.{propagated-has}
+use Rattle.outcome.proofs.Propagation.{propagated-has}
 
 -- LISTS OF FLOWS
 

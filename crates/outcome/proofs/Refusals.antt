@@ -1,7 +1,8 @@
 -- A refused call changes nothing, and the refusal answered is the first whose condition holds. Assumes nothing.
 use Rattle.std.specs.Prelude.{◌≡◌, refl, Bool, ◌↔◌, ◌≢◌, List, ℕ, zero, suc}
 use Rattle.std.proofs.Common.{sym, suc-ne-zero}
-use Rattle.refusal.specs.Order.{first_of, IsFirst, first-number}
+use Rattle.refusal.specs.Order.{first_of}
+use Rattle.refusal.proofs.Order.{IsFirst, first-number}
 use Rattle.model.specs.Model.{enable, disable}
 use Rattle.state.specs.State.{Storage, State}
 use Rattle.outcome.specs.Outcome.{decided, no_header, start_order, started, start_of, enable_of, disable_of, add_of, Call, ask, add, outcome_of, order_of}

@@ -14,8 +14,9 @@ use Rattle.state.specs.IsValid.{Usable}
 use Rattle.tagstore.specs.Laws.{put-length}
 use Rattle.tagstore.proofs.Put.{put_other, put_has, put-other-set, put-beyond}
 use Rattle.outcome.specs.Outcome.{add_order, adding, add_of}
-use Rattle.outcome.specs.Refusals.{decided-done}
-use Rattle.outcome.specs.Table.{Adds, AddAnswers, add-answers, accepted}
+use Rattle.outcome.proofs.Refusals.{decided-done}
+use Rattle.outcome.specs.Table.{Adds, AddAnswers, accepted}
+use Rattle.outcome.proofs.Table.{add-answers}
 
 -- which are accepted: the row of the table with number 0
 pub add-accepted : (s : State) (c : ℕ) (p : TagSet) → ((add_of s c p).answer.refusal ≡ 0) ↔ Adds s c p

@@ -11,19 +11,22 @@ use borrow.Table.Steps.{cases}
 use Rattle.truth.specs.Truth.{and-iff, lt_iff}
 use Rattle.model.specs.declared.Flow.{Flow}
 use Rattle.model.specs.Model.{◌∈◌, Event, enable, disable, History, empty, ◌▸◌, without, enabled, edges_of, Flows, greatest, joins, joined, accepted_from}
-use Rattle.model.specs.Closure.{Within, reached-inside}
-use Rattle.model.specs.Histories.{flows-empty, flows-next, MayEnable, enable-joins, disable-joins, joins-added, not-joins-same}
+use Rattle.model.specs.Closure.{Within}
+use Rattle.model.proofs.Closure.{reached-inside}
+use Rattle.model.specs.Histories.{MayEnable}
+use Rattle.model.proofs.Histories.{flows-empty, flows-next, enable-joins, disable-joins, joins-added, not-joins-same}
 use Rattle.tagset.specs.declared.TagSet.{TagSet}
 use Rattle.tagset.specs.Set.{has}
 use Rattle.state.specs.declared.Header.{Header}
 use Rattle.state.specs.State.{Storage, State, set_at, flows_of}
 use Rattle.state.specs.IsValid.{IsSized, Usable}
 use Rattle.outcome.specs.Outcome.{started, start_of, add_of, Call, ask, add, outcome_of, events_of, after, configuration_of}
-use Rattle.outcome.specs.Refusals.{call-cases}
+use Rattle.outcome.proofs.Refusals.{call-cases}
 use Rattle.outcome.specs.Table.{Enables}
-use Rattle.outcome.specs.Stays.{usable-count, started-has, start-usable, flows-within}
-use Rattle.outcome.specs.Steps.{start-accepted, enable-accepted, disable-accepted, start-leaves, call-leaves-usable, Sentence, enable-sentence, disable-sentence, enable-flows, disable-flows, add-so}
-use Rattle.outcome.specs.Effects.{call-containers}
+use Rattle.outcome.proofs.Stays.{usable-count, started-has, start-usable, flows-within}
+use Rattle.outcome.specs.Steps.{Sentence}
+use Rattle.outcome.proofs.Steps.{start-accepted, enable-accepted, disable-accepted, start-leaves, call-leaves-usable, enable-sentence, disable-sentence, enable-flows, disable-flows, add-so}
+use Rattle.outcome.proofs.Effects.{call-containers}
 
 -- the state is what the history makes of n containers
 pub record Follows (n : ℕ) (h : History) (s : State) : Type 0 where

@@ -1,0 +1,5 @@
+pub mod Bench
+pub mod Closure
+pub mod Histories
+pub mod Propositions
+pub mod Standing

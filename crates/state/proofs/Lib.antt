@@ -1,0 +1,3 @@
+pub mod IsValid
+pub mod Judging
+pub mod LayoutLaws

@@ -1,0 +1,4 @@
+pub mod Below
+pub mod Bit
+pub mod Laws
+pub mod Word
