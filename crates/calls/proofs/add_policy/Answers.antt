@@ -14,19 +14,23 @@ at c = state_of c.args.header c.args.tags.now c.args.policies.now c.args.counts.
 
 pub apply_add-requires : goal.apply_add-requires
 apply_add-requires c =
-    let u = judged-usable (at (goal.at.apply_add-requires c).Start) (sym c.in-Usable.ensures) in
+    let s = at (goal.at.apply_add-requires c).Start in
+    let u = judged-usable s (sym c.in-Usable.ensures) in
     (u.sized.most, u.sized.policy-words, u.sized.count-bytes)
 
 pub returns-in-BadSize : goal.returns-in-BadSize
 returns-in-BadSize c =
-    sym (add-judged (at (goal.at.returns-in-BadSize c).Start) c.args.container c.args.policy 8 (sym c.in-BadSize.ensures))
+    let s = at (goal.at.returns-in-BadSize c).Start in
+    sym (add-judged s c.args.container c.args.policy 8 (sym c.in-BadSize.ensures))
 
 pub returns-in-InvalidState : goal.returns-in-InvalidState
 returns-in-InvalidState c =
-    sym (add-judged (at (goal.at.returns-in-InvalidState c).Start) c.args.container c.args.policy 11 (sym c.in-InvalidState.ensures))
+    let s = at (goal.at.returns-in-InvalidState c).Start in
+    sym (add-judged s c.args.container c.args.policy 11 (sym c.in-InvalidState.ensures))
 
 pub returns-in-Usable : goal.returns-in-Usable
 returns-in-Usable c =
+    let s = at (goal.at.returns-in-Usable c).Start in
     c.apply_add.ensures c.args.tags.now (take c.args.lent c.args.flows)
-    ∙ apply-add (at (goal.at.returns-in-Usable c).Start) (judged-usable (at (goal.at.returns-in-Usable c).Start) (sym c.in-Usable.ensures)) c.args.container
+    ∙ apply-add s (judged-usable s (sym c.in-Usable.ensures)) c.args.container
     c.args.policy

@@ -16,20 +16,24 @@ at c tags flows = state_of c.args.header tags c.args.policies.now c.args.counts.
 
 pub returns-then-header-container : goal.returns-then-header-container
 returns-then-header-container c =
-    λ tags flows. sym (no-container (at (goal.at.returns-then-header-container c).Start tags flows) c.args.container c.args.policy (omega arith))
+    let s = at (goal.at.returns-then-header-container c).Start in
+    λ tags flows. sym (no-container (s tags flows) c.args.container c.args.policy (omega arith))
 
 pub returns-then-exceeds : goal.returns-then-exceeds
 returns-then-exceeds c =
+    let s = at (goal.at.returns-then-exceeds c).Start in
     λ tags flows.
-    sym (unknown-tag (at (goal.at.returns-then-exceeds c).Start tags flows) c.args.container c.args.policy c.if-header-container.false (sym c.exceeds.ensures ∙ c.if-exceeds.true))
+    sym (unknown-tag (s tags flows) c.args.container c.args.policy c.if-header-container.false (sym c.exceeds.ensures ∙ c.if-exceeds.true))
 
 pub returns-then-k-ge4 : goal.returns-then-k-ge4
 returns-then-k-ge4 c =
+    let s = at (goal.at.returns-then-k-ge4 c).Start in
     λ tags flows.
-    sym (policy-full (at (goal.at.returns-then-k-ge4 c).Start tags flows) c.args.container c.args.policy c.if-header-container.false (sym c.exceeds.ensures ∙ c.if-exceeds.false) (omega arith))
+    sym (policy-full (s tags flows) c.args.container c.args.policy c.if-header-container.false (sym c.exceeds.ensures ∙ c.if-exceeds.false) (omega arith))
 
 pub returns : goal.returns
 returns c =
+    let s = at (goal.at.returns c).Start in
     λ tags flows.
-    adds (at (goal.at.returns c).Start tags flows) c.args.container c.args.policy c.if-header-container.false (sym c.exceeds.ensures ∙ c.if-exceeds.false) (omega arith)
+    adds (s tags flows) c.args.container c.args.policy c.if-header-container.false (sym c.exceeds.ensures ∙ c.if-exceeds.false) (omega arith)
     (c.store_set.ensures ∙ store-whole c.args.policies.now _ c.args.policy (omega arith)) refl

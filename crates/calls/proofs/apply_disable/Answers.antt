@@ -24,10 +24,11 @@ long c = search rules
 pub returns-in_default : goal.returns-in_default
 unfolding flows_of
 returns-in_default c =
+    let s = at (goal.at.returns-in_default c).Start in
     record {
       left = λ tags policies counts.
-          left-refused (at (goal.at.returns-in_default c).Start tags policies counts) (λ fs. fs) refl c.refused.ensures
-          (not-enabled (at (goal.at.returns-in_default c).Start tags policies counts) c.args.number (sym c.in_default.is ∙ c.find-found.ensures));
+          left-refused (s tags policies counts) (λ fs. fs) refl c.refused.ensures
+          (not-enabled (s tags policies counts) c.args.number (sym c.in_default.is ∙ c.find-found.ensures));
       stored = refused-stored c.args.flows c.refused.ensures;
       places = refused-places (place_of c.args.number (take c.args.header.count c.args.flows)) c.args.header.count c.refused.ensures (λ z. omega (arith, z));
     }
@@ -35,15 +36,18 @@ returns-in_default c =
 pub overflow_sub-count : goal.overflow_sub-count
 unfolding flows_of
 overflow_sub-count c =
-    some-enabled (at (goal.at.overflow_sub-count c).Start [] [] []) c.args.number (sym c.in-At.is ∙ c.find-found.ensures)
+    let s = at (goal.at.overflow_sub-count c).Start in
+    some-enabled (s [] [] []) c.args.number (sym c.in-At.is ∙ c.find-found.ensures)
 
 pub returns : goal.returns
 unfolding flows_of
 returns c =
+    let s = at (goal.at.returns c).Start in
+    let l = long (goal.at.returns c).Start in
     let told = sym c.in-At.is ∙ c.find-found.ensures in
     record {
-      left = λ tags policies counts. disables (at (goal.at.returns c).Start tags policies counts) c.args.number (long (goal.at.returns c).Start) told c.remove.ensures;
-      stored = disable-stored c.args.flows (long (goal.at.returns c).Start) _ c.args.header.count c.remove.ensures;
+      left = λ tags policies counts. disables (s tags policies counts) c.args.number l told c.remove.ensures;
+      stored = disable-stored c.args.flows l _ c.args.header.count c.remove.ensures;
       places = ap (λ (p : ℕ). (p, c.args.header.count)) (found-place c.args.number (take c.args.header.count c.args.flows) told).1
           ∙ accepted-places 0 _ (place_of c.args.number (take c.args.header.count c.args.flows)) c.args.header.count;
     }

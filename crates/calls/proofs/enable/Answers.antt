@@ -30,33 +30,37 @@ long c = search rules
 
 pub returns-in-BadSize : goal.returns-in-BadSize
 returns-in-BadSize c =
+    let s = at (goal.at.returns-in-BadSize c).Start in
     record {
-      left = left-refused (at (goal.at.returns-in-BadSize c).Start) (take c.args.lent) refl c.refused.ensures
-          (enable-judged (at (goal.at.returns-in-BadSize c).Start) c.args.flow 8 (sym c.in-BadSize.ensures));
+      left = left-refused s (take c.args.lent) refl c.refused.ensures
+          (enable-judged s c.args.flow 8 (sym c.in-BadSize.ensures));
       stored = (refused-stored c.args.flows c.refused.ensures, refused-behind c.args.lent c.args.flows c.refused.ensures);
       places = refused-places c.args.header.count (c.args.header.count + 1) c.refused.ensures (λ z. omega (arith, z));
     }
 
 pub returns-in-InvalidState : goal.returns-in-InvalidState
 returns-in-InvalidState c =
+    let s = at (goal.at.returns-in-InvalidState c).Start in
     record {
-      left = left-refused (at (goal.at.returns-in-InvalidState c).Start) (take c.args.lent) refl c.refused-in-InvalidState.ensures
-          (enable-judged (at (goal.at.returns-in-InvalidState c).Start) c.args.flow 11 (sym c.in-InvalidState.ensures));
+      left = left-refused s (take c.args.lent) refl c.refused-in-InvalidState.ensures
+          (enable-judged s c.args.flow 11 (sym c.in-InvalidState.ensures));
       stored = (refused-stored c.args.flows c.refused-in-InvalidState.ensures, refused-behind c.args.lent c.args.flows c.refused-in-InvalidState.ensures);
       places = refused-places c.args.header.count (c.args.header.count + 1) c.refused-in-InvalidState.ensures (λ z. omega (arith, z));
     }
 
 pub returns-in-Usable : goal.returns-in-Usable
 returns-in-Usable c =
-    let u = judged-usable (at (goal.at.returns-in-Usable c).Start) (sym c.in-Usable.ensures) in
+    let s = at (goal.at.returns-in-Usable c).Start in
+    let l = long (goal.at.returns-in-Usable c).Start in
+    let u = judged-usable s (sym c.in-Usable.ensures) in
     let done = c.apply_enable in
     record {
-      left = left-lent c.args.flows (long (goal.at.returns-in-Usable c).Start) c.args.lent done.result (λ fs. apply_enable_of (with (goal.at.returns-in-Usable c).Start fs) c.args.flow) u.sized.records
+      left = left-lent c.args.flows l c.args.lent done.result (λ fs. apply_enable_of (with (goal.at.returns-in-Usable c).Start fs) c.args.flow) u.sized.records
           (done.ensures.left c.args.policies.now c.args.counts.now) done.ensures.stored
-          ∙ apply-enable (at (goal.at.returns-in-Usable c).Start) u c.args.flow (λ k. (c.slice_known-1.given k).fits);
+          ∙ apply-enable s u c.args.flow (λ k. (c.slice_known-1.given k).fits);
       stored = (
         done.ensures.stored,
-        none-behind c.args.flows (long (goal.at.returns-in-Usable c).Start) c.args.lent done.result.first done.result.end u.sized.records done.ensures.stored,
+        none-behind c.args.flows l c.args.lent done.result.first done.result.end u.sized.records done.ensures.stored,
       );
       places = done.ensures.places;
     }

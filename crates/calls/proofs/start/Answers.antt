@@ -17,22 +17,24 @@ long c = search rules
 
 pub returns-then-bad_size : goal.returns-then-bad_size
 returns-then-bad_size c =
+    let l = long (goal.at.returns-then-bad_size c).Start in
     let a = c.args in
     record {
       left = left-refused (state_of no_header a.tags.now a.policies.now a.counts.now (take a.lent a.flows)) (take a.lent) refl c.refused.ensures
-          (start-judged a.n a.tags.now a.policies.now a.counts.now a.lent a.flows (long (goal.at.returns-then-bad_size c).Start) c.bad_size.ensures c.if-bad_size.true);
+          (start-judged a.n a.tags.now a.policies.now a.counts.now a.lent a.flows l c.bad_size.ensures c.if-bad_size.true);
       stored = (refused-stored a.flows c.refused.ensures, refused-behind a.lent a.flows c.refused.ensures);
       places = refused-places 0 512 c.refused.ensures (λ z. omega (arith, z));
     }
 
 pub returns : goal.returns
 returns c =
+    let l = long (goal.at.returns c).Start in
     let a = c.args in
-    let all = start-stored a.flows (long (goal.at.returns c).Start) in
-    let enough = start-records a.n a.tags.now a.policies.now a.counts.now a.lent a.flows (long (goal.at.returns c).Start) c.bad_size.ensures c.if-bad_size.false in
+    let all = start-stored a.flows l in
+    let enough = start-records a.n a.tags.now a.policies.now a.counts.now a.lent a.flows l c.bad_size.ensures c.if-bad_size.false in
     record {
-      left = start-done a.n a.tags.now a.policies.now a.counts.now a.lent a.flows (long (goal.at.returns c).Start) c.bad_size.ensures c.if-bad_size.false
+      left = start-done a.n a.tags.now a.policies.now a.counts.now a.lent a.flows l c.bad_size.ensures c.if-bad_size.false
           c.store_own_tags.ensures c.clear_words.ensures c.clear_bytes.ensures;
-      stored = (all, none-behind a.flows (long (goal.at.returns c).Start) a.lent 0 512 enough all);
+      stored = (all, none-behind a.flows l a.lent 0 512 enough all);
       places = accepted-places 0 _ 0 512;
     }
