@@ -5,23 +5,26 @@ use leb128::Encoded;
 use samplecalls::Now;
 use sampleline::Numbers;
 use sampleline::print::text;
+use std::io;
+use std::io::Write;
 
 // `large K`: the K-th of the logs below, replayed, and its text.
-pub fn large(
+pub fn large<W: Write>(
+    out: &mut W,
     a: Numbers,
     now: Now,
     tags: &mut [u64],
     policies: &mut [u64],
     counts: &mut [u8],
-) -> Now {
+) -> io::Result<Now> {
     let mut log = [0u8; 16385];
     let end = put_log(&mut log, a.small(0));
     if 16385 < end {
-        return now;
+        return Ok(now);
     }
-    replay_log(&log[..end], now, tags, policies, counts);
-    text(b", text");
-    tally(&log[..end], now.length, tags, policies, counts)
+    replay_log(out, &log[..end], now, tags, policies, counts)?;
+    text(out, b", text")?;
+    tally(out, &log[..end], now.length, tags, policies, counts)
 }
 
 // Writes a log and answers its length: 513 flows; 16,384 bytes, and one more; 256 containers with no flow, and in a ring.
