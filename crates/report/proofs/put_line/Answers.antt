@@ -4,7 +4,7 @@ use Rattle.decimal.specs.Decimal.{decimal_of}
 use Rattle.decimal.specs.Laws.{decimal-3}
 use Rattle.tallytext.specs.Text.{spaced, line_of}
 use Rattle.report.specs.Put.{put-append}
-use Rattle.tallytext.specs.Pieces.{size-length, tags-length}
+use Rattle.tallytext.proofs.Pieces.{size-length, tags-length}
 use Rattle.report.proofs.put_line.Goals as goal
 use Rattle.report.proofs.put_line.Goals.{After-size}
 

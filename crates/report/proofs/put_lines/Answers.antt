@@ -5,7 +5,7 @@ use Rattle.state.specs.State.{set_at}
 use Rattle.tagstore.specs.Laws.{load-whole}
 use Rattle.tallytext.specs.Text.{line_of, lines_of}
 use Rattle.report.specs.Put.{putting-begun, putting-next, putting-ended}
-use Rattle.tallytext.specs.Pieces.{line-next, lines_end, line-length}
+use Rattle.tallytext.proofs.Pieces.{line-next, lines_end, line-length}
 use Rattle.report.proofs.put_lines.Goals as goal
 use Rattle.report.proofs.put_lines.Goals.{In-loop-i}
 

@@ -3,7 +3,7 @@ use Rattle.std.proofs.Common.{◌≤◌, arith, length}
 use Rattle.decimal.specs.Decimal.{decimal_of}
 use Rattle.decimal.specs.Laws.{decimal-20}
 use Rattle.report.specs.Put.{put-append}
-use Rattle.tallytext.specs.Pieces.{spaced-one}
+use Rattle.tallytext.proofs.Pieces.{spaced-one}
 use Rattle.report.proofs.put_pair.Goals as goal
 use Rattle.report.proofs.put_pair.Goals.{Start}
 

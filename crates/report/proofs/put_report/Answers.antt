@@ -2,7 +2,7 @@
 use Rattle.std.proofs.Common.{◌≡◌, ◌≤◌, ◌<◌, arith, length, take, get_or-take, length-take-le}
 use Rattle.tallytext.specs.Text.{lines_of}
 use Rattle.report.specs.Put.{put-append}
-use Rattle.tallytext.specs.Pieces.{lines-length}
+use Rattle.tallytext.proofs.Pieces.{lines-length}
 use Rattle.report.proofs.put_report.Goals as goal
 use Rattle.report.proofs.put_report.Goals.{Start}
 

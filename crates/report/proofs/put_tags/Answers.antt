@@ -5,7 +5,7 @@ use Rattle.decimal.specs.Decimal.{decimal_of}
 use Rattle.decimal.specs.Laws.{decimal-3}
 use Rattle.tallytext.specs.Text.{space, spaced, tags_rising}
 use Rattle.report.specs.Put.{putting-begun, putting-next, putting-ended}
-use Rattle.tallytext.specs.Pieces.{tag_in, tag-out, tags-end}
+use Rattle.tallytext.proofs.Pieces.{tag_in, tag-out, tags-end}
 use Rattle.report.proofs.put_tags.Goals as goal
 use Rattle.report.proofs.put_tags.Goals.{then-contains, else-contains}
 

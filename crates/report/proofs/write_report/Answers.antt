@@ -5,7 +5,7 @@ use Rattle.leb128.specs.Output.{short-outcome}
 use Rattle.ranking.specs.Ranking.{ranking_of}
 use Rattle.tallytext.specs.Text.{lines_of, last_line, report_of}
 use Rattle.report.specs.Put.{Put, put-fits}
-use Rattle.tallytext.specs.Pieces.{order-first, order_below}
+use Rattle.tallytext.proofs.Pieces.{order-first, order_below}
 use Rattle.report.proofs.write_report.Goals as goal
 use Rattle.report.proofs.write_report.Goals.{After-rank_sets}
 
