@@ -11,9 +11,11 @@ use sampleline::print::text;
 use samplelog::{logs, numbers, sets};
 use sampleruns::{large, runs};
 use state::Header;
+use std::io;
+use std::io::{BufWriter, Read, Write};
 
 // How much of each list is lent to the calls.
-#[derive(Drop)]
+#[derive(Clone, Copy)]
 struct Room {
     tags: usize,
     policies: usize,
@@ -21,17 +23,32 @@ struct Room {
     flows: usize,
 }
 
-fn main() {
-    let mut script = [0u8; 32768];
-    let n = io::read_full(libc::STDIN_FILENO, &mut script);
+fn main(rt: HostRuntime) -> io::Result<()> {
+    let mut script = Vec::new(rt.alloc());
+    rt.reader().take(32768).read_to_end(&mut script)?;
+    let n = script.len().min(32768);
     let mut tags = [0u64; 1028];
     let mut policies = [0u64; 4112];
     let mut counts = [0u8; 257];
-    run(&script[..n], &mut tags, &mut policies, &mut counts);
+    let mut out = BufWriter::new(rt.alloc(), io::writer(&rt))?;
+    run(
+        &mut out,
+        &script[..n],
+        &mut tags,
+        &mut policies,
+        &mut counts,
+    )?;
+    out.flush()
 }
 
 // Each line in turn, from no tracker on.
-fn run(s: &[u8], tags: &mut [u64], policies: &mut [u64], counts: &mut [u8])
+fn run<W: Write>(
+    out: &mut W,
+    s: &[u8],
+    tags: &mut [u64],
+    policies: &mut [u64],
+    counts: &mut [u8],
+) -> io::Result<()>
     requires { length s.now ≤ 32768 }
 {
     let mut room = Room {
@@ -49,20 +66,21 @@ fn run(s: &[u8], tags: &mut [u64], policies: &mut [u64], counts: &mut [u8])
     while at < s.len() {
         let end = sampleline::find(s, at, 10);
         let line = &s[at..end];
-        text(line);
+        text(out, line)?;
         let command = sampleline::command::command_of(line);
         let a = sampleline::numbers_of(line);
-        room = room_after(room, command, a);
+        room = room_after(out, room, command, a)?;
         now.length = room.flows;
-        now = lent(room, command, a, now, tags, policies, counts);
-        text(b"\n");
+        now = lent(out, room, command, a, now, tags, policies, counts)?;
+        text(out, b"\n")?;
         at = end + 1;
     }
+    Ok(())
 }
 
 // `room T P C F`: from now on so many words of tags, words of policy sets, counts and records of the flow table are lent. There are 512 records; up to 600
 // count as lent, and those past the 512th are not judged.
-fn room_after(room: Room, command: Command, a: Numbers) -> Room {
+fn room_after<W: Write>(out: &mut W, room: Room, command: Command, a: Numbers) -> io::Result<Room> {
     match command {
         Command::Room => {
             let asked = Room {
@@ -72,12 +90,12 @@ fn room_after(room: Room, command: Command, a: Numbers) -> Room {
                 flows: a.get(3) as usize,
             };
             if is_there(asked) {
-                return asked;
+                return Ok(asked);
             }
-            text(b": more than there is");
-            room
+            text(out, b": more than there is")?;
+            Ok(room)
         }
-        _ => room,
+        _ => Ok(room),
     }
 }
 
@@ -87,7 +105,8 @@ fn is_there(room: Room) -> bool {
 }
 
 // Does what a line says with this much of each list.
-fn lent(
+fn lent<W: Write>(
+    out: &mut W,
     room: Room,
     command: Command,
     a: Numbers,
@@ -95,20 +114,21 @@ fn lent(
     tags: &mut [u64],
     policies: &mut [u64],
     counts: &mut [u8],
-) -> Now {
+) -> io::Result<Now> {
     let t = room.tags;
     let p = room.policies;
     let c = room.counts;
     if tags.len() < t {
-        return now;
+        return Ok(now);
     }
     if policies.len() < p {
-        return now;
+        return Ok(now);
     }
     if counts.len() < c {
-        return now;
+        return Ok(now);
     }
     step(
+        out,
         command,
         a,
         now,
@@ -119,25 +139,27 @@ fn lent(
 }
 
 // Does what a line says. Its numbers are bytes too, from the one on that the command begins with.
-fn step(
+fn step<W: Write>(
+    out: &mut W,
     command: Command,
     a: Numbers,
     now: Now,
     tags: &mut [u64],
     policies: &mut [u64],
     counts: &mut [u8],
-) -> Now {
+) -> io::Result<Now> {
     let bytes = a.bytes();
     let first = first_byte(command);
     let count = a.count;
     if 64 < count {
-        return now;
+        return Ok(now);
     }
     if count < first {
-        text(b": too few numbers");
-        return now;
+        text(out, b": too few numbers")?;
+        return Ok(now);
     }
     change(
+        out,
         command,
         a,
         &bytes[first..count],
@@ -161,7 +183,8 @@ fn first_byte(command: Command) -> usize {
 }
 
 // The commands that give back another header or flow table.
-fn change(
+fn change<W: Write>(
+    out: &mut W,
     command: Command,
     a: Numbers,
     s: &[u8],
@@ -169,24 +192,24 @@ fn change(
     tags: &mut [u64],
     policies: &mut [u64],
     counts: &mut [u8],
-) -> Now {
+) -> io::Result<Now> {
     match command {
-        Command::Start => changes::start(a, now, tags, policies, counts),
-        Command::Enable => changes::enable(a, now, tags, policies, counts),
-        Command::Disable => changes::disable(a, now, tags, policies, counts),
-        Command::Add => changes::add(a, now, tags, policies, counts),
-        Command::Fill => changes::fill(a, now, tags, policies, counts),
-        Command::Flow => pokes::flow(a, now),
-        Command::Header => pokes::header(a, now),
-        Command::Replay => runs::replay_log(s, now, tags, policies, counts),
-        Command::Lent => samplelent::lent(a, s, now, tags, policies, counts),
-        Command::Tally => runs::tally(s, now.length, tags, policies, counts),
-        Command::Short => runs::short(a, s, now.length, tags, policies, counts),
-        Command::Large => large::large(a, now, tags, policies, counts),
+        Command::Start => changes::start(out, a, now, tags, policies, counts),
+        Command::Enable => changes::enable(out, a, now, tags, policies, counts),
+        Command::Disable => changes::disable(out, a, now, tags, policies, counts),
+        Command::Add => changes::add(out, a, now, tags, policies, counts),
+        Command::Fill => Ok(changes::fill(a, now, tags, policies, counts)),
+        Command::Flow => Ok(pokes::flow(a, now)),
+        Command::Header => Ok(pokes::header(a, now)),
+        Command::Replay => runs::replay_log(out, s, now, tags, policies, counts),
+        Command::Lent => samplelent::lent(out, a, s, now, tags, policies, counts),
+        Command::Tally => runs::tally(out, s, now.length, tags, policies, counts),
+        Command::Short => runs::short(out, a, s, now.length, tags, policies, counts),
+        Command::Large => large::large(out, a, now, tags, policies, counts),
         _ => {
             poke(command, a, tags, policies, counts);
-            ask(command, a, s, now, tags, policies, counts);
-            now
+            ask(out, command, a, s, now, tags, policies, counts)?;
+            Ok(now)
         }
     }
 }
@@ -203,7 +226,8 @@ fn poke(command: Command, a: Numbers, tags: &mut [u64], policies: &mut [u64], co
 }
 
 // The commands that ask the tracker; `now` asks for the header.
-fn ask(
+fn ask<W: Write>(
+    out: &mut W,
     command: Command,
     a: Numbers,
     s: &[u8],
@@ -211,35 +235,35 @@ fn ask(
     tags: &[u64],
     policies: &[u64],
     counts: &[u8],
-) {
+) -> io::Result<()> {
     match command {
-        Command::Set => asks::set(a, now, tags, policies, counts),
-        Command::Size => asks::size(a, now, tags, policies, counts),
-        Command::Legal => asks::legal(a, now, tags, policies, counts),
-        Command::Rank => asks::rank(a, now, tags, policies, counts),
-        Command::View => asks::view(now, tags),
-        Command::List => asks::list(now),
-        Command::Now => changes::header_text(b": n ", now.header),
-        _ => read(command, a, s),
+        Command::Set => asks::set(out, a, now, tags, policies, counts),
+        Command::Size => asks::size(out, a, now, tags, policies, counts),
+        Command::Legal => asks::legal(out, a, now, tags, policies, counts),
+        Command::Rank => asks::rank(out, a, now, tags, policies, counts),
+        Command::View => asks::view(out, now, tags),
+        Command::List => asks::list(out, now),
+        Command::Now => changes::header_text(out, b": n ", now.header),
+        _ => read(out, command, a, s),
     }
 }
 
 // The commands on numbers, logs and sets.
-fn read(command: Command, a: Numbers, s: &[u8]) {
+fn read<W: Write>(out: &mut W, command: Command, a: Numbers, s: &[u8]) -> io::Result<()> {
     match command {
-        Command::Number => numbers::number(a),
-        Command::Decode => numbers::decode(a, s),
-        Command::Put => numbers::put(a),
-        Command::Log => logs::log(s),
-        Command::Item => logs::item(a, s),
-        Command::Write => logs::write(a),
-        Command::Begin => logs::begin(a),
-        Command::Bytes => logs::bytes(a),
-        Command::Judge => runs::judge(a, s),
-        Command::Pair => sets::pair(a),
-        Command::Under => sets::under(a),
-        Command::Over => sets::over(a),
-        Command::Unknown => text(b": no such word"),
-        _ => {}
+        Command::Number => numbers::number(out, a),
+        Command::Decode => numbers::decode(out, a, s),
+        Command::Put => numbers::put(out, a),
+        Command::Log => logs::log(out, s),
+        Command::Item => logs::item(out, a, s),
+        Command::Write => logs::write(out, a),
+        Command::Begin => logs::begin(out, a),
+        Command::Bytes => logs::bytes(out, a),
+        Command::Judge => runs::judge(out, a, s),
+        Command::Pair => sets::pair(out, a),
+        Command::Under => sets::under(out, a),
+        Command::Over => sets::over(out, a),
+        Command::Unknown => text(out, b": no such word"),
+        _ => Ok(()),
     }
 }
