@@ -25,7 +25,8 @@ use Rattle.tagstore.specs.Store.{total_of}
 use Rattle.tagstore.specs.Laws.{words-ext}
 use Rattle.flowtable.specs.FlowTable.{place_of, removed_at}
 use Rattle.flowtable.specs.Laws.{appended, appended-flows, without-count, removed}
-use Rattle.propagation.specs.Exact.{passed_length, passed-beyond, passed-fits, exact, after_is, pairs-total}
+use Rattle.propagation.specs.Exact.{after_is}
+use Rattle.propagation.proofs.Exact.{passed_length, passed-beyond, passed-fits, exact, pairs-total}
 use Rattle.propagation.specs.Pass.{passes_of, passed, sets_after, pairs_added}
 use Rattle.outcome.specs.Outcome.{decided, stored, propagated, gain_of, changed, enabling, disabling, enable_later, enable_order, enable_of, disable_later, disable_order, disable_of, add_later, add_order, adding, add_of, outcome_of}
 use Rattle.outcome.proofs.Refusals.{decided-number, decided-refusal, decided-refused}

@@ -353,7 +353,8 @@ use Rattle.state.specs.IsValid.{IsSized, IsValid, Usable}
 use Rattle.state.proofs.IsValid.{sized, valid}
 use Rattle.tagstore.specs.Store.{total_of}
 use Rattle.propagation.specs.Pass.{pass, adds, passed, passes_of, pass_count, sets_after, pairs_added}
-use Rattle.propagation.specs.Exact.{pass-has, adds-iff, count-is, passes-some, passes-add, passes-last}
+use Rattle.propagation.specs.Exact.{count-is, passes-some, passes-add, passes-last}
+use Rattle.propagation.proofs.Exact.{pass-has, adds-iff}
 use Rattle.calls.specs.declared.Reply.{Reply}
 use Rattle.calls.specs.declared.Answered.{Answered}
 use Rattle.calls.specs.Replies.{answer_of, answer-injective}

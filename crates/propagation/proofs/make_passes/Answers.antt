@@ -13,7 +13,8 @@ use Rattle.model.specs.Model.{edges, edges_of}
 use Rattle.state.specs.State.{set_at, no_flow}
 use Rattle.propagation.specs.Exact.{passes-most}
 use Rattle.propagation.specs.Found.{Found, all_found}
-use Rattle.propagation.specs.Turns.{copied-set, Carried, carried_none, carried-fits, flow-carried, found-listed, none_made, gain-fits, one-made, all_made}
+use Rattle.propagation.specs.Turns.{copied-set, Carried, carried_none, found-listed, none_made}
+use Rattle.propagation.proofs.Turns.{carried-fits, flow-carried, gain-fits, one-made, all_made}
 use Rattle.propagation.proofs.make_passes.Goals as goal
 use Rattle.propagation.proofs.make_passes.Goals.{At-passes, After-loop-k, then-new-ne0, else-new-ne0}
 
