@@ -282,6 +282,13 @@ def bring_over(where):
             open(f, 'w').write(done)
 
 
+def public(crate, module):
+    """What proofs/ has under a module's name, at any depth, and specs/ has not."""
+    def names(f):
+        return set(re.findall(r"(?m)^\s*(?:(?:abbrev|unfoldable) )?pub (%s)(?= )" % ID, open(f).read())) if os.path.exists(f) else set()
+    return names(f'crates/{crate}/proofs/{NAMED.get(module, module)}.antt') - names(f'crates/{crate}/specs/{module}.antt')
+
+
 def whole(crate, module, where):
     return (crate, module) in where and not os.path.exists(f'crates/{crate}/specs/{module}.antt')
 
@@ -293,7 +300,7 @@ def main():
         if os.path.exists(mark):
             for l in open(mark):
                 module, *names = l.split()
-                where[(crate, module)] = set(names)
+                where[(crate, module)] = set(names) | public(crate, module)
             continue
         # which names are proved somewhere in the crate
         LAWS[crate] = set()

@@ -399,7 +399,8 @@ use Rattle.tallytext.specs.Text.{events_word, gain_word, refused_word, at_word, 
 use Rattle.report.specs.declared.Tallied.{Tallied}
 use Rattle.tallytext.specs.Words.{line_with}
 use Rattle.tallytext.proofs.Words.{line-words, events-line-words, refused-line-words, no_lines, line-by-line}
-use Rattle.tallytext.specs.Laws.{IsLine, text-of-unusable-n, text-of-complete-replay, text-of-refused-replay, left-of-replay}
+use Rattle.tallytext.specs.Laws.{IsLine}
+use Rattle.tallytext.proofs.Laws.{text-of-unusable-n, text-of-complete-replay, text-of-refused-replay, left-of-replay}
 use Rattle.tallytext.proofs.Laws.{tags-members, tags-rising, tags-count, line-ends, events-line-ends, refused-line-ends, text-of-long-input, left-of-long-input, new-storage-sized, tally-short, tally-fits, tally-suffices}
 use Rattle.claims.specs.Permission.{takes, given_to, SameSets, Known, takes-exactly-if, list-follows, policies-are-those-given, accepted-exactly-if-taken, questions-are-answered, others-are-no-container, rank-is-answered, legal-exactly-if-given, same-set-twice-takes-two-places, a-fifth-is-not-taken}
 

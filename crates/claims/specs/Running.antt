@@ -51,7 +51,7 @@ use Rattle.replay.specs.Joins.{done_of, replay-done}
 use Rattle.replay.specs.Numbers.{replay-refusal}
 use Rattle.report.specs.declared.Tallied.{Tallied}
 use Rattle.tallytext.specs.Text.{text_of, left_of, tally_of}
-use Rattle.tallytext.specs.Laws.{left-of-replay}
+use Rattle.tallytext.proofs.Laws.{left-of-replay}
 use Rattle.outcome.specs.Outcome.{Outcome, no_header, start_of, gain_of, enable_of, disable_of, add_of, Call, ask, add, outcome_of, after}
 use Rattle.outcome.proofs.Refusals.{start-refused, call-refused, call-unaccepted}
 use Rattle.outcome.specs.Table.{StartAnswers, EnableAnswers, DisableAnswers, AddAnswers, bad-size, invalid-state, no-such-from, no-such-to, self-flow, stale-number, table-full, not-enabled, no-such-container, unknown-tag, policy-full, accepted}

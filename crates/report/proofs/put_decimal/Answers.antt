@@ -1,7 +1,7 @@
 -- The digits are written where they fit, and the position goes on by their number. Assumes nothing.
 use Rattle.std.proofs.Common.{ap, ℕ, ◌+◌, arith}
 use Rattle.decimal.specs.Decimal.{decimal_of}
-use Rattle.decimal.specs.Laws.{decimal-20}
+use Rattle.decimal.proofs.Laws.{decimal-20}
 use Rattle.report.specs.Put.{put-write}
 use Rattle.report.proofs.put_decimal.Goals as goal
 

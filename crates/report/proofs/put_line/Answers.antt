@@ -1,7 +1,7 @@
 -- The four pieces one behind the other. Assumes nothing.
 use Rattle.std.proofs.Common.{◌≤◌, arith, length}
 use Rattle.decimal.specs.Decimal.{decimal_of}
-use Rattle.decimal.specs.Laws.{decimal-3}
+use Rattle.decimal.proofs.Laws.{decimal-3}
 use Rattle.tallytext.specs.Text.{spaced, line_of}
 use Rattle.report.specs.Put.{put-append}
 use Rattle.tallytext.proofs.Pieces.{size-length, tags-length}

@@ -1,7 +1,7 @@
 -- The five pieces one behind the other. Assumes nothing.
 use Rattle.std.proofs.Common.{◌≤◌, arith, length}
 use Rattle.decimal.specs.Decimal.{decimal_of}
-use Rattle.decimal.specs.Laws.{decimal-20}
+use Rattle.decimal.proofs.Laws.{decimal-20}
 use Rattle.report.specs.Put.{put-append}
 use Rattle.tallytext.proofs.Pieces.{spaced-one}
 use Rattle.report.proofs.put_pair.Goals as goal

@@ -2,7 +2,7 @@
 -- Assumes nothing.
 use Rattle.std.proofs.Common.{sym, ◌∙◌, ◌∷◌, arith}
 use Rattle.decimal.specs.Decimal.{decimal_of}
-use Rattle.decimal.specs.Laws.{decimal-3}
+use Rattle.decimal.proofs.Laws.{decimal-3}
 use Rattle.tallytext.specs.Text.{space, spaced, tags_rising}
 use Rattle.report.specs.Put.{putting-begun, putting-next, putting-ended}
 use Rattle.tallytext.proofs.Pieces.{tag_in, tag-out, tags-end}

@@ -13,7 +13,7 @@ use Rattle.leb128.specs.Number.{IsBytes, write_at, Written}
 use Rattle.leb128.specs.Output.{unrefused-fits, write-fits, write-length}
 use Rattle.io.specs.Counts.{IsPrefixLen}
 use Rattle.tallytext.specs.Text.{new_storage}
-use Rattle.tallytext.specs.Laws.{tally-prints, tally-not-short}
+use Rattle.tallytext.proofs.Laws.{tally-prints, tally-not-short}
 use Rattle.tally.proofs.report_of_bytes.Statement.{statement}
 use Rattle.tally.proofs.report_of_bytes.Tie as tie
 
