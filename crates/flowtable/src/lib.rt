@@ -30,6 +30,7 @@ pub fn find(flows: [Flow; 512], count: u32, number: u32) -> Found
 }
 
 // The table with the flow behind the first `count` records; unchanged where there is no place left.
+#[tactic(auto, using(crate::proofs::Full::none_past))]
 pub fn append(mut flows: [Flow; 512], count: u32, flow: Flow) -> [Flow; 512]
     ensures { result ≡ set flows count flow }
 {
