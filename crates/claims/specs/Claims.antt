@@ -390,9 +390,11 @@ use Rattle.replay.specs.declared.Ending.{Ending}
 use Rattle.replay.specs.declared.Replayed.{Replayed}
 use Rattle.replay.specs.Replay.{Replay, event_in, call_of, containers_in, replay_of}
 use Rattle.replay.specs.Replies.{ending_of, containers_of, ending-injective, containers-injective}
-use Rattle.replay.specs.Laws.{AllAccepted, gains_of, ContainersAnswers, containers-answers, begun-head, replay-not-begun, replay-starts, Replays, replay-does, replay-log, replay-log-refused, replay-usable, replay-containers, replay-beyond}
-use Rattle.replay.specs.Joins.{joining, done_of, replay-done}
-use Rattle.replay.specs.Numbers.{begins-exactly-if}
+use Rattle.replay.specs.Laws.{AllAccepted, gains_of, ContainersAnswers, containers-answers, begun-head, replay-not-begun, replay-starts, Replays, replay-log}
+use Rattle.replay.proofs.Laws.{replay-does, replay-log-refused, replay-usable, replay-containers, replay-beyond}
+use Rattle.replay.specs.Joins.{joining, done_of}
+use Rattle.replay.proofs.Joins.{replay-done}
+use Rattle.replay.proofs.Numbers.{begins-exactly-if}
 use Rattle.decimal.specs.Decimal.{decimal_of, number_of}
 use Rattle.decimal.proofs.Laws.{decimal-last, decimal-value, decimal_digit, decimal-front}
 use Rattle.tallytext.specs.Text.{events_word, gain_word, refused_word, at_word, tags_rising, line_of, lines_of, events_line, refused_line, text_of, new_storage, printed_of, left_of, tally_of}

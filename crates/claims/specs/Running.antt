@@ -46,9 +46,11 @@ use Rattle.replay.specs.declared.Ending.TheVariants.{Complete, Truncated, Overlo
 use Rattle.replay.specs.declared.Replayed.{Replayed}
 use Rattle.replay.specs.Replay.{Replay, call_of, containers_in, replay_of}
 use Rattle.replay.specs.Replies.{ending_of, replay_by}
-use Rattle.replay.specs.Laws.{replay-does, replay-starts}
-use Rattle.replay.specs.Joins.{done_of, replay-done}
-use Rattle.replay.specs.Numbers.{replay-refusal}
+use Rattle.replay.specs.Laws.{replay-starts}
+use Rattle.replay.proofs.Laws.{replay-does}
+use Rattle.replay.specs.Joins.{done_of}
+use Rattle.replay.proofs.Joins.{replay-done}
+use Rattle.replay.proofs.Numbers.{replay-refusal}
 use Rattle.report.specs.declared.Tallied.{Tallied}
 use Rattle.tallytext.specs.Text.{text_of, left_of, tally_of}
 use Rattle.tallytext.proofs.Laws.{left-of-replay}

@@ -27,7 +27,8 @@ use Rattle.ranking.specs.Ranking.{rank_later, rank_order, rank_of}
 use Rattle.replay.specs.Replay.{Replay, call_of, halted, counted, replay_events, replay_from, containers_at, containers_in, replay_of}
 use Rattle.replay.specs.Begin.{begun_sized, not-begun}
 use Rattle.replay.specs.Laws.{replay-begun}
-use Rattle.replay.specs.Steps.{accepted-event, refused-event}
+use Rattle.replay.specs.Steps.{accepted-event}
+use Rattle.replay.proofs.Steps.{refused-event}
 
 -- THE TABLE IN TWO PARTS
 

@@ -1,1 +1,5 @@
+pub mod Steps
+pub mod Laws
+pub mod Joins
+pub mod Numbers
 pub mod Other

@@ -4,4 +4,3 @@ pub mod Steps
 pub mod Begin
 pub mod Laws
 pub mod Joins
-pub mod Numbers

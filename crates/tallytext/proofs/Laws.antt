@@ -33,12 +33,13 @@ use Rattle.ranking.specs.Laws.{ranking-length}
 use Rattle.replay.specs.declared.Replayed.{Replayed}
 use Rattle.replay.specs.Replay.{Replay, replay_of, containers_in}
 use Rattle.replay.specs.Replies.{replay_by, ending_of}
-use Rattle.replay.specs.Laws.{replay-not-begun, replay-containers, replay-events}
+use Rattle.replay.specs.Laws.{replay-not-begun}
+use Rattle.replay.proofs.Laws.{replay-containers, replay-events}
 use Rattle.tallytext.specs.Words.{spaced_words, line_with}
 use Rattle.tallytext.proofs.Words.{line-words, events-line-words, refused-line-words}
 use Rattle.tallytext.specs.Text.{events_word, gain_word, refused_word, at_word, space, newline, those, tags_rising, spaced, line_of, lines_of, events_line, refused_line, last_line, report_of, replay_text, text_of, new_storage, left_of, tally_of}
 use Rattle.tallytext.proofs.Pieces.{those-in, those-out, spaced-one, lines-length, ranking-below}
-use Rattle.replay.specs.Numbers.{replay-room, replay-gain, replay-refusal, replay-byte}
+use Rattle.replay.proofs.Numbers.{replay-room, replay-gain, replay-refusal, replay-byte}
 use Rattle.tallytext.specs.Laws.{container_lines, Above, Rising, NoNewline, IsLine}
 
 -- THE WHOLE TEXT

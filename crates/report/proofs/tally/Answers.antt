@@ -10,9 +10,8 @@ use Rattle.replay.specs.declared.Replayed.{Replayed}
 use Rattle.replay.specs.Replay.{Replay, replay_of}
 use Rattle.replay.specs.Replies.{ending_of, replay_by}
 use Rattle.tallytext.specs.Text.{report_of, text_of, left_of}
-use Rattle.replay.specs.Numbers.{replay-room}
-use Rattle.tallytext.proofs.Laws.{left-of-replay}
-use Rattle.tallytext.proofs.Laws.{left-of-long-input, long-report, replay-report}
+use Rattle.replay.proofs.Numbers.{replay-room}
+use Rattle.tallytext.proofs.Laws.{left-of-replay, left-of-long-input, long-report, replay-report}
 use Rattle.report.proofs.tally.Goals as goal
 use Rattle.report.proofs.tally.Goals.{After-replay-run}
 
