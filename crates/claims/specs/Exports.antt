@@ -68,55 +68,55 @@ module _ {M : Type 1} {𝓤 : Ura M} (𝓛 : Logic 𝓤) (mem : Memory → SProp
   pub exported-start-contract : start-it.clauses 𝓛 mem run ≡ Ensures 𝓤 start-it.ended
       (λ κs (n, (tags, (policies, (counts, (flows, _))))) r (_, (tags', (policies', (counts', (flows', _))))).
       fact 𝓤 (outcome_in r tags'.now policies'.now counts'.now flows'.now
-      ≡ start_of n (lists tags policies counts flows)))
+      ≡ start_of n (lists tags.now policies.now counts.now flows.now)))
   exported-start-contract = refl
 
   pub exported-enable-contract : enable-it.clauses 𝓛 mem run ≡ Ensures 𝓤 enable-it.ended
       (λ κs (header, (tags, (policies, (counts, (flows, (flow, _)))))) r (_, (tags', (_, (_, (flows', _))))).
       fact 𝓤 (outcome_in r tags'.now policies.now counts.now flows'.now
-      ≡ outcome_of (given header tags policies counts flows) (ask (enable flow))))
+      ≡ outcome_of (given header tags.now policies.now counts.now flows.now) (ask (enable flow))))
   unfolding outcome_of
   exported-enable-contract = refl
 
   pub exported-disable-contract : disable-it.clauses 𝓛 mem run ≡ Ensures 𝓤 disable-it.ended
       (λ κs (header, (tags, (policies, (counts, (flows, (number, _)))))) r (_, (_, (_, (_, (flows', _))))).
       fact 𝓤 (outcome_in r tags.now policies.now counts.now flows'.now
-      ≡ outcome_of (given header tags policies counts flows) (ask (disable number))))
+      ≡ outcome_of (given header tags.now policies.now counts.now flows.now) (ask (disable number))))
   unfolding outcome_of
   exported-disable-contract = refl
 
   pub exported-add-policy-contract : add-policy-it.clauses 𝓛 mem run ≡ Ensures 𝓤 add-policy-it.ended
       (λ κs (header, (tags, (policies, (counts, (flows, (c, (policy, _))))))) r (_, (_, (policies', (counts', _)))).
       fact 𝓤 (outcome_in r tags.now policies'.now counts'.now flows.now
-      ≡ outcome_of (given header tags policies counts flows) (add c policy)))
+      ≡ outcome_of (given header tags.now policies.now counts.now flows.now) (add c policy)))
   unfolding outcome_of
   exported-add-policy-contract = refl
 
   pub exported-tags-of-contract : tags-of-it.clauses 𝓛 mem run ≡ Ensures 𝓤 tags-of-it.ended
       (λ κs (header, (tags, (policies, (counts, (flows, (c, _)))))) r e.
-      fact 𝓤 (set_in r ≡ tags_of (given header tags policies counts flows) c))
+      fact 𝓤 (set_in r ≡ tags_of (given header tags.now policies.now counts.now flows.now) c))
   exported-tags-of-contract = refl
 
   pub exported-size-of-contract : size-of-it.clauses 𝓛 mem run ≡ Ensures 𝓤 size-of-it.ended
       (λ κs (header, (tags, (policies, (counts, (flows, (c, _)))))) r e.
-      fact 𝓤 (size_in r ≡ size_asked (given header tags policies counts flows) c))
+      fact 𝓤 (size_in r ≡ size_asked (given header tags.now policies.now counts.now flows.now) c))
   exported-size-of-contract = refl
 
   pub exported-is-legal-contract : is-legal-it.clauses 𝓛 mem run ≡ Ensures 𝓤 is-legal-it.ended
       (λ κs (header, (tags, (policies, (counts, (flows, (c, _)))))) r e.
-      fact 𝓤 (legal_in r ≡ legal_of (given header tags policies counts flows) c))
+      fact 𝓤 (legal_in r ≡ legal_of (given header tags.now policies.now counts.now flows.now) c))
   exported-is-legal-contract = refl
 
   pub exported-rank-contract : rank-it.clauses 𝓛 mem run ≡ Ensures 𝓤 rank-it.ended
       (λ κs (header, (tags, (policies, (counts, (flows, (out, _)))))) r (_, (_, (_, (_, (_, (out', _)))))).
-      sep 𝓤 (fact 𝓤 (r ≡ (rank_of (given header tags policies counts flows) out.now).refusal))
-      (fact 𝓤 (out'.now ≡ (rank_of (given header tags policies counts flows) out.now).output)))
+      sep 𝓤 (fact 𝓤 (r ≡ (rank_of (given header tags.now policies.now counts.now flows.now) out.now).refusal))
+      (fact 𝓤 (out'.now ≡ (rank_of (given header tags.now policies.now counts.now flows.now) out.now).output)))
   exported-rank-contract = refl
 
   pub exported-replay-contract : replay-it.clauses 𝓛 mem run ≡ Ensures 𝓤 replay-it.ended
       (λ κs (bytes, (tags, (policies, (counts, (flows, _))))) r (_, (tags', (policies', (counts', (flows', _))))).
       fact 𝓤 (replay_in r tags'.now policies'.now counts'.now flows'.now
-      ≡ replay_of bytes.now (lists tags policies counts flows)))
+      ≡ replay_of bytes.now (lists tags.now policies.now counts.now flows.now)))
   exported-replay-contract = refl
 
   pub exported-decode-contract : decode-it.clauses 𝓛 mem run ≡ Ensures 𝓤 decode-it.ended

@@ -11,7 +11,6 @@ use prog.Routine.{Routine}
 use types.Logic.{Logic}
 use contract.Monad.{Fun, fact}
 use contract.Lifetimes.{Lfts}
-use Rattle.std.specs.Borrow.{Bor}
 use denote.Triple.Entry.{Args, Res}
 use denote.Triple.Clauses.{Ended, AtExit, Clauses}
 use Rattle.model.specs.declared.Flow.{Flow}
@@ -32,11 +31,11 @@ use Rattle.tracker.specs.contracts.replay as replay-it
 use Rattle.report.specs.contracts.tally as tally-it
 
 -- the lent lists, and the state of a header and these
-abbrev pub lists : Bor (List ℕ) → Bor (List ℕ) → Bor (List ℕ) → Bor (List Flow) → Storage
-lists tags policies counts flows = storage_of tags.now policies.now counts.now flows.now
+abbrev pub lists : List ℕ → List ℕ → List ℕ → List Flow → Storage
+lists tags policies counts flows = storage_of tags policies counts flows
 
-abbrev pub given : Header → Bor (List ℕ) → Bor (List ℕ) → Bor (List ℕ) → Bor (List Flow) → State
-given header tags policies counts flows = state_of header tags.now policies.now counts.now flows.now
+abbrev pub given : Header → List ℕ → List ℕ → List ℕ → List Flow → State
+given header tags policies counts flows = state_of header tags policies counts flows
 
 -- a contract that requires nothing and ensures what `says` says: of the arguments in their order, of the result, and of
 -- the arguments at exit
@@ -51,54 +50,54 @@ Ensures 𝓤 T says κs a = record { ghost = Unit; requires = λ g. emp 𝓤; en
 module _ {M : Type 1} {𝓤 : Ura M} (𝓛 : Logic 𝓤) (mem : Memory → SProp 𝓤) (run : Routine → Fun 𝓤) where
   pub start-contract : start-it.clauses 𝓛 mem run ≡ Ensures 𝓤 start-it.ended
       (λ κs (n, (tags, (policies, (counts, (flows, _))))) r (_, (tags', (policies', (counts', (flows', _))))).
-      fact 𝓤 (StartGave n (lists tags policies counts flows) r (lists tags' policies' counts' flows')))
+      fact 𝓤 (StartGave n (lists tags.now policies.now counts.now flows.now) r (lists tags'.now policies'.now counts'.now flows'.now)))
   start-contract = refl
 
   pub enable-contract : enable-it.clauses 𝓛 mem run ≡ Ensures 𝓤 enable-it.ended
       (λ κs (header, (tags, (policies, (counts, (flows, (flow, _)))))) r (_, (tags', (_, (_, (flows', _))))).
-      fact 𝓤 (CallGave (given header tags policies counts flows) (ask (enable flow))
-      r (lists tags' policies counts flows')))
+      fact 𝓤 (CallGave (given header tags.now policies.now counts.now flows.now) (ask (enable flow))
+      r (lists tags'.now policies.now counts.now flows'.now)))
   unfolding outcome_of
   enable-contract = refl
 
   pub disable-contract : disable-it.clauses 𝓛 mem run ≡ Ensures 𝓤 disable-it.ended
       (λ κs (header, (tags, (policies, (counts, (flows, (number, _)))))) r (_, (_, (_, (_, (flows', _))))).
-      fact 𝓤 (CallGave (given header tags policies counts flows) (ask (disable number))
-      r (lists tags policies counts flows')))
+      fact 𝓤 (CallGave (given header tags.now policies.now counts.now flows.now) (ask (disable number))
+      r (lists tags.now policies.now counts.now flows'.now)))
   unfolding outcome_of
   disable-contract = refl
 
   pub add-policy-contract : add-it.clauses 𝓛 mem run ≡ Ensures 𝓤 add-it.ended
       (λ κs (header, (tags, (policies, (counts, (flows, (c, (policy, _))))))) r (_, (_, (policies', (counts', _)))).
-      fact 𝓤 (CallGave (given header tags policies counts flows) (add c policy)
-      r (lists tags policies' counts' flows)))
+      fact 𝓤 (CallGave (given header tags.now policies.now counts.now flows.now) (add c policy)
+      r (lists tags.now policies'.now counts'.now flows.now)))
   unfolding outcome_of
   add-policy-contract = refl
 
   pub tags-of-contract : tags-it.clauses 𝓛 mem run ≡ Ensures 𝓤 tags-it.ended
       (λ κs (header, (tags, (policies, (counts, (flows, (c, _)))))) r e.
-      fact 𝓤 (TagsGave (given header tags policies counts flows) c r))
+      fact 𝓤 (TagsGave (given header tags.now policies.now counts.now flows.now) c r))
   tags-of-contract = refl
 
   pub size-of-contract : size-it.clauses 𝓛 mem run ≡ Ensures 𝓤 size-it.ended
       (λ κs (header, (tags, (policies, (counts, (flows, (c, _)))))) r e.
-      fact 𝓤 (SizeGave (given header tags policies counts flows) c r))
+      fact 𝓤 (SizeGave (given header tags.now policies.now counts.now flows.now) c r))
   size-of-contract = refl
 
   pub is-legal-contract : legal-it.clauses 𝓛 mem run ≡ Ensures 𝓤 legal-it.ended
       (λ κs (header, (tags, (policies, (counts, (flows, (c, _)))))) r e.
-      fact 𝓤 (LegalGave (given header tags policies counts flows) c r))
+      fact 𝓤 (LegalGave (given header tags.now policies.now counts.now flows.now) c r))
   is-legal-contract = refl
 
   pub rank-contract : rank-it.clauses 𝓛 mem run ≡ Ensures 𝓤 rank-it.ended
       (λ κs (header, (tags, (policies, (counts, (flows, (out, _)))))) r (_, (_, (_, (_, (_, (out', _)))))).
-      sep 𝓤 (fact 𝓤 (RankGave (given header tags policies counts flows) out.now r))
-      (fact 𝓤 (RankWrote (given header tags policies counts flows) out.now out'.now)))
+      sep 𝓤 (fact 𝓤 (RankGave (given header tags.now policies.now counts.now flows.now) out.now r))
+      (fact 𝓤 (RankWrote (given header tags.now policies.now counts.now flows.now) out.now out'.now)))
   rank-contract = refl
 
   pub replay-contract : replay-it.clauses 𝓛 mem run ≡ Ensures 𝓤 replay-it.ended
       (λ κs (bytes, (tags, (policies, (counts, (flows, _))))) r (_, (tags', (policies', (counts', (flows', _))))).
-      fact 𝓤 (ReplayGave bytes.now (lists tags policies counts flows) r (lists tags' policies' counts' flows')))
+      fact 𝓤 (ReplayGave bytes.now (lists tags.now policies.now counts.now flows.now) r (lists tags'.now policies'.now counts'.now flows'.now)))
   replay-contract = refl
 
   pub tally-contract : tally-it.clauses 𝓛 mem run ≡ Ensures 𝓤 tally-it.ended
