@@ -159,6 +159,7 @@ fn put_pair(out: &mut [u8], at: usize, first: &[u8], a: u64, second: &[u8], b: u
 }
 
 // Puts the last line: what was done, or the refusal and where it is.
+#[tactic(auto, unfolding(tallytext::specs::Text::last_line, tallytext::specs::Text::events_line, tallytext::specs::Text::refused_line))]
 fn put_last(out: &mut [u8], at: usize, refusal: u32, byte: usize, events: u64, gain: u64) -> usize
     requires { at ≤ 1500000 }
     ensures { Put out.old at (last_line refusal byte events gain) out.new result }
