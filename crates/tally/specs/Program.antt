@@ -1,17 +1,15 @@
 -- What the program prints of what was read, and what its argument asks for. Assumes nothing.
 use Rattle.std.specs.Prelude.{ℕ, ◌≡◌, List, [], ◌∷◌, take}
 use Rattle.stream.specs.declared.Input.{Input}
-use Rattle.stream.specs.declared.Input.TheVariants as Input
 use Rattle.tallytext.specs.Text.{printed_of}
 use Rattle.tally.specs.declared.Asked.{Asked}
-use Rattle.tally.specs.declared.Asked.TheVariants as Asked
 
 -- what is printed where reading gave this and left these bytes: the text of what was read, and not a byte where a read
 -- failed
 unfoldable pub shown_of : Input → List ℕ → List ℕ
 shown_of (Input.Whole n) bytes = printed_of (take n bytes)
 shown_of Input.Full bytes = printed_of bytes
-shown_of Input.Failed bytes = []
+shown_of (Input.Failed error) bytes = []
 
 -- the word --help
 abbrev pub help_word : List ℕ

@@ -4,25 +4,27 @@
 
 ghost use Rattle.std.specs.Prelude.{◌≡◌, ◌≤◌, length, take};
 ghost use Rattle.io.specs.Counts.{IsPrefixLen};
-ghost use Rattle.stream.specs.Stream.{Within};
+ghost use Rattle.stream.specs.Stream.{Within, Came};
 ghost use Rattle.tallytext.specs.Text.{printed_of};
 ghost use Rattle.tally.specs.Program.{shown_of, AsksFor};
 
 use leb128::Encoded;
+use std::env::FillError;
+use std::fs::File;
+use std::io;
+use std::io::{ErrorKind, Read, Write};
+use std::rt::{Env, Files};
 use stream::Input;
 
-fn main() {
-    let words = os::arg_count();
-    if words < 2 {
-        show(libc::STDIN_FILENO, b"tally: standard input");
-        return;
-    }
-    if words > 2 {
-        say_usage();
-        return;
-    }
+fn main(rt: HostRuntime) {
     let mut line = [0u8; 4103];
-    answer(&mut line);
+    answer(
+        &rt,
+        &mut rt.stdin(),
+        rt.stdout(),
+        &mut rt.stderr(),
+        &mut line,
+    );
 }
 
 // What the argument asks for.
@@ -33,21 +35,43 @@ enum Asked {
     Neither,
 }
 
-// Does what the one argument asks for. `line` gets the program's name before it, as a line on standard error begins.
-fn answer(line: &mut [u8])
+// Does what the arguments ask for. `line` gets the program's name before the first, as a line on standard error begins.
+fn answer<P: Env + Files, R: Read, W: Write + Drop, E: Write>(
+    rt: &P,
+    reader: &mut R,
+    out: W,
+    errors: &mut E,
+    line: &mut [u8],
+)
     requires { length line.old ≡ 4103 }
 {
-    bytes::copy(b"tally: ", line);
-    let n = os::arg(1, &mut line[7..]);
-    if os::errno() != 0 {
-        os::fail(b"tally: the argument");
+    if is_given(rt, 2) {
+        say_usage(errors);
         return;
     }
-    let end = 7 + n;
-    match asked_by(&line[7..end]) {
-        Asked::Help => print_help(),
-        Asked::File => show_file(line, end),
-        Asked::Neither => say_usage(),
+    line[..7].copy_from_slice(b"tally: ");
+    match rt.arg(1, &mut line[7..]) {
+        Ok(n) => {
+            let end = 7 + n;
+            match asked_by(&line[7..end]) {
+                Asked::Help => print_help(out, errors),
+                Asked::File => show_file(rt, out, errors, line, end),
+                Asked::Neither => say_usage(errors),
+            }
+        }
+        Err(FillError::NotPresent) => show(reader, out, errors, b"tally: standard input"),
+        Err(FillError::TooLong) => {
+            let _ = stream::say(errors, b"tally: the argument", b"File name too long");
+        }
+    }
+}
+
+// Whether the program was started with an argument of this number.
+fn is_given<P: Env>(rt: &P, i: usize) -> bool {
+    match rt.arg(i, &mut []) {
+        Ok(_) => true,
+        Err(FillError::TooLong) => true,
+        Err(FillError::NotPresent) => false,
     }
 }
 
@@ -61,14 +85,16 @@ fn asked_by(word: &[u8]) -> Asked
     if word[0] != b'-' {
         return Asked::File;
     }
-    if check::same(word, b"--help") {
+    if word == b"--help".as_slice() {
         return Asked::Help;
     }
     Asked::Neither
 }
 
-fn print_help() {
+fn print_help<W: Write + Drop, E: Write>(out: W, errors: &mut E) {
     stream::print_and_close(
+        out,
+        errors,
         b"usage: tally [FILE]
 
 Reads the log of a shift, from FILE or else from standard input, and prints
@@ -94,39 +120,49 @@ the form of a log, the reasons of a refusal, and a test that a text is whole.
     );
 }
 
-fn say_usage() {
-    io::write_all(
-        libc::STDERR_FILENO,
-        b"tally: give no argument, or the name of a file, or --help\n",
-    );
+fn say_usage<E: Write>(errors: &mut E) {
+    let _ = errors.write_all(b"tally: give no argument, or the name of a file, or --help\n");
 }
 
 // Shows the report of the file whose name is in `line`, from byte 7 up to `end`.
-fn show_file(line: &mut [u8], end: usize)
+fn show_file<P: Files, W: Write + Drop, E: Write>(
+    rt: &P,
+    out: W,
+    errors: &mut E,
+    line: &mut [u8],
+    end: usize,
+)
     requires { (7 ≤ end) × (end ≤ length line.old) }
 {
-    let fd = os::open_read(&line[7..end]);
+    let opened = open(rt, &line[7..end]);
     stream::one_line(line);
-    if fd < 0 {
-        os::fail(&line[..end]);
-        return;
+    match opened {
+        Ok(mut file) => show(&mut file, out, errors, &line[..end]),
+        Err(error) => stream::fail(errors, &line[..end], error),
     }
-    show(fd, &line[..end]);
 }
 
-// Prints the report of the log that comes from `fd`. If a read fails, a line on standard error has `name` and the
+// Opens the file of this name to be read. std takes a name that is text, so any other is refused.
+fn open<P: Files>(rt: &P, name: &[u8]) -> io::Result<P::File> {
+    match std::str::from_utf8(name) {
+        Ok(name) => File::open(rt, name),
+        Err(_) => Err(io::Error::new(ErrorKind::InvalidFilename, "The name is not UTF-8")),
+    }
+}
+
+// Prints the report of the log that comes from `reader`. If a read fails, a line on standard error has `name` and the
 // reason.
-fn show(fd: i32, name: &[u8]) {
+fn show<R: Read, W: Write + Drop, E: Write>(reader: &mut R, out: W, errors: &mut E, name: &[u8]) {
     let mut input = [0u8; 16385];
     let mut text = [0u8; 264256];
-    let ran = run(fd, &mut input, &mut text);
+    let ran = run(reader, &mut input, &mut text);
     let read = ran.read;
-    if let Input::Failed = read {
-        os::fail(name);
+    if let Input::Failed(error) = read {
+        stream::fail(errors, name, error);
         return;
     }
     let length = ran.length;
-    stream::print_and_close(&text[..length], b"tally: standard output");
+    stream::print_and_close(out, errors, &text[..length], b"tally: standard output");
 }
 
 // What reading gave, and the length of its report.
@@ -137,12 +173,13 @@ struct Ran {
 }
 
 // Reads a log into `input`, and puts the report of what was read, as `read_to_end` answers it, at the start of `text`.
-fn run(fd: i32, input: &mut [u8], text: &mut [u8]) -> Ran
+fn run<R: Read>(reader: &mut R, input: &mut [u8], text: &mut [u8]) -> Ran
     requires { (length input.old ≡ 16385) × (264256 ≤ length text.old) }
     ensures prefix_len { IsPrefixLen result.length text.new }
     ensures text_after { take result.length text.new ≡ shown_of result.read input.new }
+    ensures came { Came (R.remaining reader.old) (R.remaining reader.new) result.read input.new }
 {
-    let read = stream::read_to_end(fd, input);
+    let read = stream::read_to_end(reader, input);
     let length = report_of(input, read, text);
     Ran { read, length }
 }
@@ -157,7 +194,7 @@ fn report_of(input: &[u8], read: Input, text: &mut [u8]) -> usize
     match read {
         Input::Whole(n) => report_of_bytes(&input[..n], text),
         Input::Full => report_of_bytes(input, text),
-        Input::Failed => 0,
+        Input::Failed(_) => 0,
     }
 }
 
