@@ -1,9 +1,8 @@
 -- Flows and the accepted history in the papers' words. Assumes nothing.
-use Rattle.std.specs.Prelude.{◌≡◌, refl, Bool, true, false, cond, ◌⊎◌, ◌↔◌, ◌≢◌, List, [], ◌∷◌, ◌++◌, ℕ, ◌≤◌, ◌<◌, length}
+use Rattle.std.specs.Prelude.{◌≡◌, refl, Bool, true, false, cond, ◌⊎◌, ◌↔◌, List, [], ◌∷◌, ◌++◌, ℕ, ◌≤◌, ◌<◌}
 use Rattle.std.proofs.Common.{sym, ap, subst, inl, inr, ⊎_elim, arith}
 use Rattle.std.proofs.lemmas.Bool.{false≢true}
 use mathlib.Core.List.Memᴰ
-use Rattle.model.specs.Closure.{Within}
 use Rattle.model.proofs.Closure.{reached-inside}
 use Rattle.model.proofs.Standing.{enabled-number, number-enabled, without-part, within-flows}
 use Rattle.truth.specs.Truth.{and-iff, not_iff, lt_iff, ne_iff}

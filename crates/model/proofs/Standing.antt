@@ -7,7 +7,7 @@ use Rattle.std.proofs.lemmas.Bool.{false≢true, eqb-false}
 use mathlib.Core.List.Memᴰ
 use borrow.Table.Steps.{cases}
 use Rattle.model.specs.declared.Flow.{Flow}
-use Rattle.model.specs.Model.{Event, enable, disable, History, empty, ◌▸◌, ◌∈◌, without, keep, enabled, edges, edges_of, Enabled, is_enabled}
+use Rattle.model.specs.Model.{enable, disable, History, empty, ◌▸◌, ◌∈◌, without, keep, enabled, edges, edges_of, Enabled, is_enabled}
 use Rattle.model.specs.Closure.{Within}
 use Rattle.model.specs.Standing.{Standing, here, later}
 

@@ -1,9 +1,8 @@
 -- The model computed: the traps of the bench (document 01) and Example 1 of document 000, whose events are accepted, whose concrete execution leaves
 -- what table 1a says, and in which another order of the same executions leaves less. Assumes nothing.
-use Rattle.std.specs.Prelude.{◌≡◌, refl, Bool, true, false, List, [], ◌∷◌}
+use Rattle.std.specs.Prelude.{refl, Bool, true, false, List, [], ◌∷◌}
 use mathlib.Core.List.Memᴰ
-use Rattle.model.specs.Model.{◌∈◌, flow, Event, enable, disable, History, empty, ◌▸◌, is_enabled, keep, without, enabled, edges_of, Execution, begin, event, exec, initial, carry, configuration, greatest, joins, joined, accepted_from, accepted}
-use Rattle.model.specs.Reach.{tabulate, matrix, cell, is_edge, reach_via, reachable}
+use Rattle.model.specs.Model.{◌∈◌, flow, Event, enable, disable, History, empty, ◌▸◌, keep, without, enabled, Execution, begin, event, exec}
 
 -- truth values, as the rows below have them
 abbrev pub I : Bool

@@ -1,14 +1,9 @@
 -- Flows and the accepted history in the papers' words. Assumes nothing.
-use Rattle.std.specs.Prelude.{◌≡◌, refl, Bool, true, false, cond, ◌⊎◌, ◌↔◌, ◌≢◌, List, [], ◌∷◌, ◌++◌, ℕ, ◌≤◌, ◌<◌, length}
-use Rattle.std.proofs.Common.{sym, ap, subst, inl, inr, ⊎_elim, arith}
-use Rattle.std.proofs.lemmas.Bool.{false≢true}
-use mathlib.Core.List.Memᴰ
+use Rattle.std.specs.Prelude.{◌≡◌, true, ◌≢◌, ℕ, ◌<◌, length}
 use Rattle.model.specs.Closure.{Within}
-
-use Rattle.truth.specs.Truth.{and-iff, not_iff, lt_iff, ne_iff}
 use Rattle.model.specs.declared.Flow.{Flow}
-use Rattle.model.specs.Model.{◌∈◌, Event, enable, disable, History, empty, ◌▸◌, enabled, edges_of, Enabled*, Flows, own, next}
-use Rattle.model.specs.Model.{greatest, joins, joined, accepted_from, accepted}
+use Rattle.model.specs.Model.{Event, History, empty, ◌▸◌, enabled, edges_of}
+use Rattle.model.specs.Model.{greatest, joins}
 
 -- THE ACCEPTED HISTORY: each event of it joined what was accepted before
 

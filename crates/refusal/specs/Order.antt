@@ -1,7 +1,6 @@
 -- An order of refusals is a list of conditions, each with its answer: the first condition that holds decides (document 01, 'Order').
 -- Assumes nothing.
-use Rattle.std.specs.Prelude.{◌≡◌, refl, Bool, true, false, cond, List, [], ◌∷◌, ◌++◌, ◌⊎◌, ◌↔◌, ℕ, suc}
-use Rattle.std.proofs.Common.{sym, ap, ◌∙◌, subst, inl, inr, suc-ne-zero}
+use Rattle.std.specs.Prelude.{Bool, cond, List, [], ◌∷◌}
 
 -- the answer beside the first condition that holds, or the other answer where none does
 abbrev pub first_of {ℓ} : {A : Type ℓ} → List (Bool × A) → A → A

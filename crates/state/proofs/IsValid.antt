@@ -1,16 +1,16 @@
 -- What `bad_size` and `valid_of` test, in the paper's words: each test passes exactly where its sentence holds, and `simp` puts them together.
 -- Assumes nothing.
-use Rattle.std.specs.Prelude.{◌≡◌, refl, Bool, true, false, List, [], ◌∷◌, ◌↔◌, ◌≢◌, ℕ, zero, suc, ◌+◌, ◌-◌, ◌*◌, ◌/◌, ◌%◌, ◌≤◌, ◌<◌, length, get_or, take, drop}
+use Rattle.std.specs.Prelude.{◌≡◌, refl, Bool, true, false, List, [], ◌∷◌, ◌↔◌, ℕ, zero, suc, ◌+◌, ◌-◌, ◌≤◌, ◌<◌, length, get_or, take, drop}
 use Rattle.std.proofs.Common.{sym, ap, ◌∙◌, arith, length-take, length-drop, get_or-take, get_or-drop}
 use mathlib.Core.List.Memᴰ
 use Rattle.truth.specs.Truth.{and_both, and-iff, neither-iff, not_iff, le_iff, lt_iff, not-lt-iff, eq_iff, ne_iff}
 use Rattle.model.specs.declared.Flow.{Flow}
-use Rattle.model.specs.Model.{◌∈◌, edges_of}
+use Rattle.model.specs.Model.{◌∈◌}
 use Rattle.tagset.specs.declared.TagSet.{TagSet}
 use Rattle.tagset.proofs.Below.{all-at, all-make}
 use Rattle.tagset.proofs.Laws.{implies-iff, subset-has, subset-of-has, not-exceeds, not-exceeds-of-has}
 use Rattle.tagset.specs.Set.{has, all_below, subset_of, exceeds_of}
-use Rattle.state.specs.State.{Storage, State, short_of, bad_size, set_at, policy_count, policy_at, flows_of, no_flow}
+use Rattle.state.specs.State.{Storage, State, short_of, bad_size, no_flow}
 use Rattle.state.specs.Valid.{all_of, rising_from, in_limits, counts_in_limits, numbers_rise, ends_proper, tags_known, own_tags, sets_carried, is_no_flow, unused_zero, valid_of}
 use Rattle.state.specs.IsValid.{IsSized, Rising, IsValid}
 

@@ -1,19 +1,9 @@
 -- A set of tags word by word: what its words say of its tags, and what the code makes of the words.
 -- Assumes nothing.
-use Rattle.std.specs.Prelude.{◌≡◌, refl, Bool, true, false, ◌&&◌, List, [], ◌∷◌, ℕ, zero, suc, ◌+◌, ◌*◌, ◌-◌, ◌/◌, ◌%◌, ◌^◌, ◌≤◌, ◌<◌, eqb, get_or, set, length}
-use Rattle.std.proofs.Common.{sym, ap, ap₂, ◌∙◌, subst, mod-lt, one-mul, mod-eq_of_lt, div-add-mod', sub-eq-zero_of_le, le_of_lt, arith, lit<, pow_pos, Fits, eqb-true, eq-eqb}
-use Rattle.std.specs.Bool.{beq}
-use Rattle.std.proofs.Math.Nat.{sub-zero, min-eq_left, min-eq_right}
-use Rattle.std.proofs.Math.Arith.{digits_div, digits_mod}
-use Rattle.std.specs.Int.Bits.{bit_and, bit_or, and_lt, or_add_and}
-use Rattle.std.proofs.lemmas.Nat.{and_le_l, and_le_r, and_mask}
-use Rattle.std.proofs.Math.Pow.{pow-lt}
-use Rattle.std.specs.Int.{w64}
+use Rattle.std.specs.Prelude.{◌≡◌, Bool, true, List, [], ◌∷◌, ℕ, ◌-◌, ◌^◌, ◌<◌, eqb, get_or}
+use Rattle.std.specs.Int.Bits.{bit_and}
 use Rattle.tagset.specs.declared.TagSet.{TagSet}
-use Rattle.truth.specs.Truth.{iff, and_both, both-and}
-
-
-use Rattle.tagset.specs.Set.{all_below, bit_at, word_at, has_w, has, single_of, low_ones, below_of, wordwise, implies, subset_of, same_of, IsWords}
+use Rattle.tagset.specs.Set.{bit_at}
 
 -- four words of 0
 abbrev pub zeros : List ℕ

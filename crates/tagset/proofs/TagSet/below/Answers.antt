@@ -1,5 +1,4 @@
 -- `below` meets its contract: its words are the answers of `low_ones`. Assumes nothing.
-use borrow.Author.Rules.{rules}
 use Rattle.tagset.proofs.Word.{below-made}
 use Rattle.tagset.proofs.TagSet.below.Goals as goal
 

@@ -1,6 +1,5 @@
 -- `contains` meets its contract: no set has a tag past 255, and the lowest bit of the shifted word is the tag's. Assumes nothing.
 use mathlib.Core.Path.{sym}
-use borrow.Author.Rules.{rules}
 use Rattle.tagset.proofs.Word.{has-near}
 use Rattle.tagset.proofs.Laws.{has-far}
 use Rattle.tagset.proofs.TagSet.contains.Goals as goal
@@ -8,7 +7,6 @@ use Rattle.tagset.proofs.TagSet.contains.Goals as goal
 pub returns-then-tag-ge256 : goal.returns-then-tag-ge256
 returns-then-tag-ge256 c =
     sym (has-far _ _ c.if-tag-ge256.true)
-
 
 pub returns : goal.returns
 returns c =

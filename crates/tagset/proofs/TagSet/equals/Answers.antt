@@ -1,7 +1,6 @@
 -- `equals` meets its contract: sets have the same tags where they have the same words.
 -- Each `λ c. lit< tt` answers for the read of a word: its index is a constant below 4. Assumes nothing.
 use mathlib.Core.Path.{sym}
-use lib.Dec.{lit<}
 use borrow.Author.Rules.{rules}
 use Rattle.tagset.specs.Set.{IsWords}
 use Rattle.tagset.proofs.Word.{words_of, same-tested}

@@ -1,7 +1,6 @@
 -- `exceeds` meets its contract: a tag of n or more is one that the tags below n lack. Assumes nothing.
 use mathlib.Core.Bool.{not}
 use mathlib.Core.Path.{sym, ap, ◌∙◌}
-use borrow.Author.Rules.{rules}
 use Rattle.tagset.specs.Set.{subset_of}
 use Rattle.tagset.proofs.Laws.{exceeds-below}
 use Rattle.tagset.proofs.TagSet.exceeds.Goals as goal

@@ -1,8 +1,6 @@
 -- `is_subset` meets its contract: nothing is left of a word without what both have where it has no bit that the other lacks.
 -- Each `λ c. lit< tt` answers for the read of a word: its index is a constant below 4; what both have of a word is at most the word. Assumes nothing.
 use mathlib.Core.Path.{refl}
-use lib.Bits.{and_le_l}
-use lib.Dec.{lit<}
 use borrow.Author.Rules.{rules}
 use Rattle.tagset.specs.Set.{IsWords}
 use Rattle.tagset.proofs.Word.{words_of, subset-tested}

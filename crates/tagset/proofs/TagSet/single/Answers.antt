@@ -1,6 +1,5 @@
 -- `single` meets its contract: the store of a shifted 1 loses no bit, and a tag past 255 leaves the words at 0. Assumes nothing.
 use mathlib.Core.Path.{sym}
-use borrow.Author.Rules.{rules}
 use Rattle.tagset.specs.Set.{empty_set}
 use Rattle.tagset.proofs.Word.{single-made}
 use Rattle.tagset.proofs.Laws.{single-past}
@@ -9,7 +8,6 @@ use Rattle.tagset.proofs.TagSet.single.Goals as goal
 pub returns-then-tag-lt256 : goal.returns-then-tag-lt256
 returns-then-tag-lt256 c =
     single-made _
-
 
 pub returns : goal.returns
 unfolding empty_set

@@ -5,7 +5,6 @@ use Prim.Native.Nat.{ℕ, ◌≤◌}
 use native.Mathlib.Omega.{arith}
 use lib.Count.{ones, ones-le}
 use lib.ListN.{get_or}
-use lib.Dec.{lit<}
 use borrow.Author.Rules.{rules}
 use Rattle.tagset.specs.Set.{IsWords}
 use Rattle.tagset.proofs.Word.{words_of}
@@ -24,16 +23,13 @@ pub overflow_add-result : goal.overflow_add-result
 overflow_add-result c =
     omega (arith, few (goal.at.overflow_add-result c).Start 0, few (goal.at.overflow_add-result c).Start 1)
 
-
 pub overflow_add-result-2 : goal.overflow_add-result-2
 overflow_add-result-2 c =
     omega (arith, few (goal.at.overflow_add-result-2 c).Start 0, few (goal.at.overflow_add-result-2 c).Start 1, few (goal.at.overflow_add-result-2 c).Start 2)
 
-
 pub overflow_add-result-3 : goal.overflow_add-result-3
 overflow_add-result-3 c =
     omega (arith, few (goal.at.overflow_add-result-3 c).Start 0, few (goal.at.overflow_add-result-3 c).Start 1, few (goal.at.overflow_add-result-3 c).Start 2, few (goal.at.overflow_add-result-3 c).Start 3)
-
 
 pub returns : goal.returns
 returns c =
