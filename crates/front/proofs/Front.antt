@@ -12,7 +12,7 @@ use Rattle.eventlog.specs.Log.{bytes_of, head_at, events_from}
 use Rattle.model.specs.declared.Flow.{Flow}
 use Rattle.model.specs.Model.{enable, disable}
 use Rattle.tagset.specs.declared.TagSet.{TagSet}
-use Rattle.state.specs.State.{Storage, State, storage_of, bad_size, flows_of, with_flows}
+use Rattle.state.specs.State.{Storage, State, bad_size, flows_of, with_flows}
 use Rattle.state.specs.Valid.{in_limits, counts_in_limits, numbers_rise, ends_proper, tags_known, own_tags, sets_carried, unused_zero, valid_of, state_order}
 use Rattle.state.specs.IsValid.{Usable}
 use Rattle.validity.specs.Lent.{least-below}
@@ -24,7 +24,7 @@ use Rattle.outcome.proofs.Steps.{enable-accepted, disable-accepted}
 use Rattle.outcome.proofs.Effects.{start-beyond, call-beyond}
 use Rattle.question.specs.Question.{question_later, question_order, tags_of, size_asked, policies_of, is_legal, legal_of}
 use Rattle.ranking.specs.Ranking.{rank_later, rank_order, rank_of}
-use Rattle.replay.specs.Replay.{Replay, call_of, halted, counted, replay_events, replay_from, containers_at, containers_in, replay_of}
+use Rattle.replay.specs.Replay.{call_of, halted, counted, replay_events, replay_from, containers_at, containers_in, replay_of}
 use Rattle.replay.specs.Begin.{begun_sized, not-begun}
 use Rattle.replay.specs.Laws.{replay-begun}
 use Rattle.replay.specs.Steps.{accepted-event}

@@ -1,5 +1,5 @@
 -- Accepted calls: which they are, what they leave, and document 01's sentence on the sets after them. Assumes nothing.
-use Rattle.std.specs.Prelude.{◌≡◌, refl, true, List, [], ◌∷◌, ◌++◌, ◌↔◌, ◌≢◌, ℕ, ◌*◌, ◌<◌, eqb, length, get_or}
+use Rattle.std.specs.Prelude.{◌≡◌, refl, true, List, [], ◌∷◌, ◌++◌, ◌↔◌, ◌≢◌, ℕ, ◌*◌, ◌<◌}
 use Rattle.std.proofs.Math.Logic.Iff
 use mathlib.Mathlib.Logic.Relation.{ReflTransGenᴰ}
 use Rattle.std.proofs.Common.{arith}
@@ -11,7 +11,7 @@ use Rattle.model.proofs.Closure.{reaches-sound, reaches-complete}
 use Rattle.model.proofs.Standing.{without-part}
 use Rattle.tagset.specs.declared.TagSet.{TagSet}
 use Rattle.tagset.specs.Set.{has}
-use Rattle.state.specs.State.{Storage, State, set_at, policy_count, flows_of, no_flow}
+use Rattle.state.specs.State.{Storage, State, set_at, flows_of}
 use Rattle.state.proofs.LayoutLaws.{front_at}
 use Rattle.state.specs.IsValid.{IsSized, Usable}
 use Rattle.outcome.specs.Outcome.{no_header, start_order, started, start_of, propagated, changed, enabling, disabling, enable_order, enable_of, disable_order, disable_of, add_of, Call, ask, add, outcome_of}

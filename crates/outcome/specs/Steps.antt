@@ -1,25 +1,10 @@
 -- Accepted calls: which they are, what they leave, and document 01's sentence on the sets after them. Assumes nothing.
-use Rattle.std.specs.Prelude.{◌≡◌, refl, true, List, [], ◌∷◌, ◌++◌, ◌↔◌, ◌≢◌, ℕ, ◌*◌, ◌<◌, eqb, length, get_or}
-use Rattle.std.proofs.Math.Logic.Iff
+use Rattle.std.specs.Prelude.{◌≡◌, true, List, ◌↔◌, ℕ, ◌*◌, ◌<◌, eqb, length, get_or}
 use mathlib.Mathlib.Logic.Relation.{ReflTransGenᴰ}
-use Rattle.std.proofs.Common.{arith}
-use Rattle.refusal.specs.Order.{first_of}
 use Rattle.model.specs.declared.Flow.{Flow}
-use Rattle.model.specs.Model.{◌∈◌, enable, disable, without, edges_of}
-use Rattle.model.specs.Closure.{Within}
-use Rattle.model.proofs.Closure.{reaches-sound, reaches-complete}
-use Rattle.model.proofs.Standing.{without-part}
-use Rattle.tagset.specs.declared.TagSet.{TagSet}
+use Rattle.model.specs.Model.{◌∈◌, edges_of}
 use Rattle.tagset.specs.Set.{has}
-use Rattle.state.specs.State.{Storage, State, set_at, policy_count, flows_of, no_flow}
-use Rattle.state.proofs.LayoutLaws.{front_at}
-use Rattle.state.specs.IsValid.{IsSized, Usable}
-use Rattle.outcome.specs.Outcome.{no_header, start_order, started, start_of, propagated, changed, enabling, disabling, enable_order, enable_of, disable_order, disable_of, add_of, Call, ask, add, outcome_of}
-
-use Rattle.outcome.specs.Table.{Enables, StartAnswers, EnableAnswers, DisableAnswers, AddAnswers, bad-size, invalid-state, accepted}
-
-
-
+use Rattle.state.specs.State.{State, set_at, policy_count, flows_of, no_flow}
 
 -- THE SETS AFTER AN EVENT
 

@@ -1,25 +1,12 @@
 -- The table of refusals: which number each call answers, in the paper's words and order. Each condition of an order is what its row says, and the
 -- rows leave no case out. Assumes nothing.
-use Rattle.std.specs.Prelude.{◌≡◌, refl, Bool, true, false, cond, List, ◌⊎◌, ◌↔◌, ◌≢◌, ℕ, ◌≤◌, ◌<◌}
-use Rattle.std.proofs.Common.{sym, ap, ◌∙◌, ⊎_elim, arith, le-leb, eq-eqb, ne_eqb}
-use Rattle.std.proofs.lemmas.Bool.{false≢true, lt-leb}
-use Rattle.std.proofs.Math.Logic.{by_cases}
-use Rattle.std.proofs.Math.Decide.{dec_lt, ℕ_discrete}
-use borrow.Table.Steps.{cases}
-use Rattle.refusal.specs.Order.{first_of}
-use Rattle.refusal.proofs.Order.{by_rows}
+use Rattle.std.specs.Prelude.{◌≡◌, true, ◌≢◌, ℕ, ◌≤◌, ◌<◌}
 use Rattle.model.specs.declared.Flow.{Flow}
-use Rattle.model.specs.Model.{◌∈◌, is_enabled}
-use Rattle.model.proofs.Standing.{enabled-number, number-enabled}
+use Rattle.model.specs.Model.{◌∈◌}
 use Rattle.tagset.specs.declared.TagSet.{TagSet}
-use Rattle.tagset.specs.Set.{has, exceeds_of}
-use Rattle.tagset.proofs.Laws.{exceeds-of-tag, exceeds-tag, not-exceeds, not-exceeds-of-has}
+use Rattle.tagset.specs.Set.{has}
 use Rattle.state.specs.State.{Storage, State, policy_count, flows_of}
 use Rattle.state.specs.IsValid.{IsSized, ProperEnds, IsValid, Usable}
-use Rattle.state.proofs.IsValid.{sized}
-use Rattle.state.proofs.Judging.{too_short, size-cases, by_state, short-first, invalid-first, usable-first}
-use Rattle.outcome.specs.Outcome.{no_header, start_order, started, start_of, enable_later, enable_order, enabling, enable_of, disable_later, disable_order, disabling, disable_of, add_later, add_order, adding, add_of}
-
 
 -- 'Starting: 9'
 pub data StartAnswers (n : ℕ) (lent : Storage) : ℕ → Type 0 where

@@ -16,7 +16,6 @@ use Rattle.leb128.specs.declared.Encoded.TheVariants.{Next, ShortOutput}
 use Rattle.leb128.specs.Answer.{Writing, wrote, unwritten, writing_of}
 use Rattle.leb128.specs.Number.{IsBytes, Written}
 use Rattle.leb128.specs.Output.{overwrite-start, write-fits, write-short}
-use Rattle.eventlog.specs.Log.{head_at}
 use Rattle.decimal.specs.Decimal.{decimal_of}
 use Rattle.decimal.proofs.Laws.{decimal_digit, decimal-below}
 use Rattle.model.specs.declared.Flow.{Flow}
