@@ -10,9 +10,12 @@ import glob
 import os
 import re
 
-CRATES = ['refusal', 'model', 'state', 'tagset', 'outcome', 'front', 'tallytext']
+CRATES = ['refusal', 'model', 'state', 'tagset', 'outcome', 'front', 'tallytext', 'claims']
 # A name that the kit makes in proofs/ itself.
 NAMED = {'Layout': 'LayoutLaws'}
+# Of claims only these files have what rests on a definition with an edit, and Claims goes whole.
+ONLY = {'claims': {'Claims', 'Permission'}}
+WHOLE = {('claims', 'Claims')}
 ID = r"[^\s(){}\[\],;.:]+"
 DECL = re.compile(r"^(\s*)((?:(?:abbrev|unfoldable|pub|record|data)\s+)*)(%s)(?: \{[^}]*\})?((?:\s+(?!=\s)%s)*)\s+:\s" % (ID, ID))
 WORDS = {'use', 'unfolding', 'module', 'where', 'let', 'in'}
@@ -129,7 +132,7 @@ def move(crate):
     moved = {}
     for f in sorted(glob.glob(f'crates/{crate}/specs/*.antt')):
         module = os.path.basename(f)[:-5]
-        if module == 'Lib':
+        if module == 'Lib' or module not in ONLY.get(crate, {module}):
             continue
         moved[module] = split(crate, module, f)
     return moved
@@ -140,6 +143,8 @@ def split(crate, module, f):
     comments, imps = imports(head)
     infos = [declared(b) for b in bs]
     law = [any(not d for d in i.values()) if i else None for i in infos]
+    if (crate, module) in WHOLE:
+        law = [None if l is None else True for l in law]
     brought = {n.split(' as ')[-1] for m, ns, _ in imps if m.startswith(f'Rattle.{crate}.specs.') for n in ns or []}
     others = LAWS[crate] & brought
     # names that laws of the crate's other files declare are laws too

@@ -1,6 +1,5 @@
 pub mod Samples
 pub mod Permission
-pub mod Claims
 pub mod Running
 pub mod Tie
 pub mod Exports

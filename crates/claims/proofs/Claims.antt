@@ -404,7 +404,8 @@ use Rattle.tallytext.proofs.Words.{line-words, events-line-words, refused-line-w
 use Rattle.tallytext.specs.Laws.{IsLine}
 use Rattle.tallytext.proofs.Laws.{text-of-unusable-n, text-of-complete-replay, text-of-refused-replay, left-of-replay}
 use Rattle.tallytext.proofs.Laws.{tags-members, tags-rising, tags-count, line-ends, events-line-ends, refused-line-ends, text-of-long-input, left-of-long-input, new-storage-sized, tally-short, tally-fits, tally-suffices}
-use Rattle.claims.specs.Permission.{takes, given_to, SameSets, Known, takes-exactly-if, list-follows, policies-are-those-given, accepted-exactly-if-taken, questions-are-answered, others-are-no-container, rank-is-answered, legal-exactly-if-given, same-set-twice-takes-two-places, a-fifth-is-not-taken}
+use Rattle.claims.specs.Permission.{takes, given_to, SameSets, Known}
+use Rattle.claims.proofs.Permission.{takes-exactly-if, list-follows, policies-are-those-given, accepted-exactly-if-taken, questions-are-answered, others-are-no-container, rank-is-answered, legal-exactly-if-given, same-set-twice-takes-two-places, a-fifth-is-not-taken}
 
 -- THE DEFINITIONS: model/specs/Model.antt (containers, flows, executions; no word of a tracker) and Reach.antt; state/specs/State.antt and
 -- Valid.antt; outcome/specs/Outcome.antt; question/specs/Question.antt; ranking/specs/Ranking.antt; leb128/specs/Number.antt and Answer.antt;
