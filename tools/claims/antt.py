@@ -1,8 +1,10 @@
-"""What a file of definitions and laws (specs/*.antt) declares and imports, line by line."""
+"""What a file of definitions and laws (specs/*.antt, proofs/*.antt) declares and imports, line by line."""
 import re
 from dataclasses import dataclass, field
 
 TOKEN = re.compile(r"[(){},;]|[^\s(){},;]+")
+# Before each field that is taken of a name, as twice in r.header.count.
+FIELD = re.compile(r"(?<=[^.])(?=\.[^.])")
 OPENING, CLOSING = "({", ")}"
 TYPES = ("data", "record")
 
@@ -56,11 +58,12 @@ def joined(lines):
 
 
 def tokens(text):
-    """The words and brackets of a text; the dot behind the names of a λ is a word of its own."""
+    """The words and brackets of a text; the dot behind the names of a λ is a word of its own, and so is each field that
+    is taken of a name, with its dot."""
     found = []
     for word in TOKEN.findall(text):
         ends = len(word) > 1 and word.endswith(".") and not word.endswith("..")
-        found += [word[:-1], "."] if ends else [word]
+        found += FIELD.split(word[:-1] if ends else word) + (["."] if ends else [])
     return found
 
 
@@ -106,7 +109,7 @@ class File:
                 self.block(items(body), around + (head,))
             elif kinds and kinds[0] in TYPES:
                 self.add(self.type_of(lines, kinds[0], around))
-            elif not (words[0] == "unfolding" or words[0].startswith("infix") or words[:2] == ["pub", "mod"]):
+            elif not (words[0] in ("unfolding", "mod") or words[0].startswith("infix") or words[:2] == ["pub", "mod"]):
                 last = self.statement(lines, last, around)
 
     def add(self, one):

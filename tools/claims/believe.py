@@ -6,9 +6,9 @@ Counted are the statement of the theorem, or the contract of the function, and e
 down to the kit's own library, which is not counted: a definition with its body, a type with all that it has, a function
 with its contract alone, and the line of the module around each. Not counted are comments, blank lines, imports and
 proofs. A name that is neither `abbrev` nor `unfoldable` cannot be unfolded in another file; where one is used there (a
-proof that a statement names) its statement is counted. DIR is the repository, this one if none is named; with --list
-each declaration follows, with its file and its lines. Ends non-zero where a name or a file is missing, but for the rows
-of the ties on an older checkout that has no Tie.antt.
+proof that a statement names) its statement is counted. The files of the claims stand in specs/, in proofs/ or in both.
+DIR is the repository, this one if none is named; with --list each declaration follows, with its file and its lines.
+Ends non-zero where a name or a file is missing. A commit in an older Rattle is counted with the tools of that commit.
 """
 import os
 import sys
@@ -16,10 +16,10 @@ import sys
 sys.dont_write_bytecode = True
 from repository import Repository
 
-CLAIMS = "claims/specs/Claims.antt"
-TIE = "claims/specs/Tie.antt"
-EXPORTS = "claims/specs/Exports.antt"
-TRACKER = "tracker/src/lib.rt"
+CLAIMS, TIE, EXPORTS = (
+    (f"claims/specs/{name}.antt", f"claims/proofs/{name}.antt") for name in ("Claims", "Tie", "Exports")
+)
+TRACKER = ("tracker/src/lib.rt",)
 CALLS = ["start", "enable", "disable", "add_policy", "tags_of", "size_of", "is_legal", "rank", "replay"]
 TIED = ["start", "enable", "disable", "add_policy"]
 
@@ -43,30 +43,42 @@ def lines_of(part):
     return {(one.file, number) for one, whole in part for number in one.lines(whole)}
 
 
-def public(repository, path):
-    if path not in repository.files:
-        raise LookupError(f"no file {path}")
-    return [one for one in repository.files[path].declared if one.public]
+def present(repository, paths):
+    """Those of these files that there are, one at least."""
+    found = [path for path in paths if path in repository.files]
+    if not found:
+        raise LookupError(f"no file {paths[0]}")
+    return found
+
+
+def public(repository, paths):
+    return [one for path in present(repository, paths) for one in repository.files[path].declared if one.public]
+
+
+def named(repository, paths, name):
+    """The declaration of this name in one of these files."""
+    found = present(repository, paths)
+    return repository.declared(next((path for path in found if name in repository.files[path].names), found[0]), name)
 
 
 def tied(repository):
     """What Tie.antt states on the contracts of the calls by which a list is made."""
     ties = public(repository, TIE)
-    calls = [repository.declared(TRACKER, name) for name in TIED]
+    calls = [named(repository, TRACKER, name) for name in TIED]
     return [one for one in ties if any(used in calls for used, _ in closure(repository, [one]))]
 
 
-def roots(repository, path, names):
+def roots(repository, paths, names):
     """The declarations of these names, or where none are given all public ones."""
-    return [repository.declared(path, name) for name in names] or public(repository, path)
+    return [named(repository, paths, name) for name in names] or public(repository, paths)
 
 
-def with_tie(repository, path, names):
-    return roots(repository, path, names) + tied(repository)
+def with_tie(repository, paths, names):
+    return roots(repository, paths, names) + tied(repository)
 
 
-def with_ties(repository, path, names):
-    return roots(repository, path, names) + public(repository, TIE) + public(repository, EXPORTS)
+def with_ties(repository, paths, names):
+    return roots(repository, paths, names) + public(repository, TIE) + public(repository, EXPORTS)
 
 
 # Each claim, where it stands, and what is stated: that of these names, or all that is public there.
@@ -109,14 +121,16 @@ def row(repository, name, found):
 def main(arguments):
     given = [word for word in arguments if word != "--list"]
     here = os.path.join(os.path.dirname(os.path.abspath(__file__)), "../..")
-    repository, missing = Repository(given[0] if given else here), False
+    try:
+        repository, missing = Repository(given[0] if given else here), False
+    except LookupError as error:
+        sys.exit(f"believe: {error.args[0]}")
     print(f"{'claim':40}" + "".join(f"{word:>13}" for word in ("statements", "definitions", "lines", "files")))
-    for name, find, path, names in ROWS:
+    for name, find, paths, names in ROWS:
         try:
-            text, part = row(repository, name, find(repository, path, names))
+            text, part = row(repository, name, find(repository, paths, names))
         except LookupError as error:
-            text, part = f"{name:40}    {error.args[0]}", []
-            missing |= find is roots or TIE in repository.files
+            text, part, missing = f"{name:40}    {error.args[0]}", [], True
         print(text)
         if "--list" in arguments:
             listed(part)

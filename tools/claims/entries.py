@@ -2,7 +2,8 @@
 import functools
 import re
 
-BEGIN = "-- THE INDEX."
+from sources import BEGIN
+
 QUOTATION = re.compile(r"(?:(?<=[\s(])|^)'(.+?)'(?=[:,;.)]|$)")
 BACKQUOTED = re.compile(r"`([^`]+)`")
 FILE = re.compile(r"\(([\w./-]+\.(?:antt|rt))\)")

@@ -13,10 +13,13 @@
 5. Behind every quotation something is named that fixes it: a theorem, a name in backquotes, a path or a row of the
    samples, which the table has to have; or it has one of the phrases that entries.py lists.
 6. The entries of the three demands have the names that DEMANDS lists, and the first every contract of Tie.antt.
-7. Every public function of tracker, report and foreign has the entry of its name in Tie.antt or Exports.antt.
+7. Every public function of tracker, report and foreign has the entry of its name in Tie.antt or Exports.antt; and
+   foreign_c exports each of foreign, and no other, with the same parameters, answer and contract, word by word, and
+   the words of its contracts are brought from where foreign brings them.
 8. The sections of the claims have the heads that ties.py lists, and no other.
 9. Every word of Running.antt for what a call gave is in an entry of Tie.antt, and a hypothesis of a theorem of
    Claims.antt; behind such a hypothesis a theorem speaks of the call's result; and a theorem what-.. has one.
+The files of the claims (Claims.antt, Tie.antt and so on) stand in crates/claims/specs, in proofs beside it or in both.
 The papers are in ../shared/papers beside the repository, or where the environment variable PAPERS says.
 """
 import os
@@ -28,7 +31,7 @@ import ties
 import wrong
 from antt import CLOSING, OPENING, joined, tokens
 from entries import index_of
-from sources import CLAIMS, SAMPLES, Sources, claimed
+from sources import SAMPLES, TIE, Sources, claimed
 
 # The calls whose answers are by the table of refusals; and names that the entry of each demand has at least.
 ANSWERING = ("start", "enable", "disable", "add", "set", "size", "permission", "rank", "n", "reading", "reading-n")
@@ -45,7 +48,7 @@ def faults_of_names(index, sources):
     """Theorems that the index lacks, and names in it that there are not."""
     known, named = claimed(sources), {name for _, name in index.names}
     missing = [(path, line, f"{name} is not in the index") for name, (path, line) in known.items() if name not in named]
-    return missing + [(CLAIMS[0], line, f"no theorem {name}") for line, name in index.names if name not in known]
+    return missing + [(sources.index, line, f"no theorem {name}") for line, name in index.names if name not in known]
 
 
 def faults_of_paths(index, sources):
@@ -53,35 +56,43 @@ def faults_of_paths(index, sources):
     found = []
     for line, path, at_root in index.paths:
         if not (sources.exists("crates/" + path) or at_root and sources.exists(path)):
-            found.append((CLAIMS[0], line, f"no file {path}"))
+            found.append((sources.index, line, f"no file {path}"))
     for line, name, path in index.cited:
         if path is None:
-            found.append((CLAIMS[0], line, f"no file behind `{name}`"))
+            found.append((sources.index, line, f"no file behind `{name}`"))
         elif sources.exists("crates/" + path) and name not in sources.file("crates/" + path).names:
-            found.append((CLAIMS[0], line, f"no {name} in {path}"))
+            found.append((sources.index, line, f"no {name} in {path}{beside(name, path, sources)}"))
     return found
 
 
-def faults_of_quotations(index, text):
+def beside(name, path, sources):
+    """Where a name stands that its file lacks: in the file of the same name in the other folder, or nowhere there."""
+    one, other = ("/specs/", "/proofs/") if "/specs/" in path else ("/proofs/", "/specs/")
+    there = "crates/" + path.replace(one, other)
+    is_there = there != "crates/" + path and sources.exists(there) and name in sources.file(there).names
+    return f"; it is in {there.removeprefix('crates/')}" if is_there else ""
+
+
+def faults_of_quotations(index, sources, text):
     """Quotations that the papers do not have, and sentences of document 01 that are not quoted."""
     absent = [(line, said) for line, said in index.quotations if not text.places(said)]
-    found = [(CLAIMS[0], line, f"not in the papers: {said}") for line, said in absent]
+    found = [(sources.index, line, f"not in the papers: {said}") for line, said in absent]
     missing = text.unquoted(tuple(said for _, said in index.quotations))
-    return found + [(CLAIMS[0], index.line, f"no quotation of: {sentence}") for sentence in missing]
+    return found + [(sources.index, index.line, f"no quotation of: {sentence}") for sentence in missing]
 
 
 def faults_of_demands(index, sources):
     """Demands without an entry, and names that it lacks: of the first also each contract of Tie.antt."""
-    contracts = [one.name for one in sources.file(CLAIMS[1]).declared if one.name.endswith("-contract")]
+    contracts = [one.name for one in sources.declared(TIE) if one.name.endswith("-contract")]
     needed = {**DEMANDS, "1": DEMANDS["1"] + contracts}
     pairs = [(demand, name) for demand, names in needed.items() for name in names]
     lacking = [(demand, name) for demand, name in pairs if name not in index.demands.get(demand, ())]
-    return [(CLAIMS[0], index.line, f"DEMAND {demand} is without {name}") for demand, name in lacking]
+    return [(sources.index, index.line, f"DEMAND {demand} is without {name}") for demand, name in lacking]
 
 
 def number_of_samples(sources):
     """How many rows the table of samples has: the constructors in it that are in no bracket."""
-    names, depth, found = sources.file(SAMPLES).names, 0, 0
+    names, depth, found = {one.name: one for one in sources.declared(SAMPLES)}, 0, 0
     for word in tokens(joined(names["samples"].body)):
         depth += (word in OPENING) - (word in CLOSING)
         found += depth == 0 and word in names["Sample"].members
@@ -90,15 +101,17 @@ def number_of_samples(sources):
 
 def faults_of_entries(index, sources):
     """Quotations that nothing fixes, and rows that the table of samples does not have."""
-    found = [(CLAIMS[0], line, f"nothing is named for: {said}") for line, said in index.unfixed]
+    found = [(sources.index, line, f"nothing is named for: {said}") for line, said in index.unfixed]
     last = number_of_samples(sources)
-    return found + [(CLAIMS[0], line, f"no row {row} of {last}") for line, row in index.rows if not 1 <= row <= last]
+    beyond = [(line, row) for line, row in index.rows if not 1 <= row <= last]
+    return found + [(sources.index, line, f"no row {row} of {last}") for line, row in beyond]
 
 
 def faults(sources, text):
     """All that is wrong with the index, and the line that says how much it holds."""
-    index = index_of(sources.text(CLAIMS[0]))
-    found = faults_of_names(index, sources) + faults_of_paths(index, sources) + faults_of_quotations(index, text)
+    index = index_of(sources.text(sources.index))
+    found = faults_of_names(index, sources) + faults_of_paths(index, sources)
+    found += faults_of_quotations(index, sources, text)
     found += faults_of_demands(index, sources) + faults_of_entries(index, sources) + ties.faults(sources)
     names = len({name for _, name, _ in index.cited})
     return sorted(found), f"index: {len(claimed(sources))} theorems, {names} names, {len(index.quotations)} quotations"

@@ -1,4 +1,4 @@
-"""Which names a declaration of a file of specs/ uses, but for those that it binds itself."""
+"""Which names a declaration of a file of specs/ or proofs/ uses, but for those that it binds itself."""
 import re
 
 from antt import CLOSING, OPENING, TYPES, at_top, items, joined, tokens

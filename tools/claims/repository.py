@@ -7,36 +7,46 @@ import antt
 import names
 import rt
 
-PATH = re.compile(r"Rattle·(\w+?)(?:·\w+)?\.(specs|proofs)\.(.+)")
+PATH = re.compile(r"Rattle\.(\w+)\.(specs|proofs)\.(.+)")
+# What the kit makes of the sources: each type, and each contract.
+MADE = ("declared", "contracts")
+KINDS = ("*/specs/*.antt", "*/proofs/*.antt", "*/src/*.rt")
+# How an import began in an older Rattle.
+OLDER = "use Rattle·"
+TOLD = "is of an older Rattle, and its commit has the tools that count it"
 USE = re.compile(r"use (\S+?)(?:\.\{(.*)\})?(?: as (\S+))?$")
 
 
 def read(path):
     with open(path, encoding="utf-8") as file:
-        return file.read()
+        text = file.read()
+    if OLDER in text:
+        raise LookupError(f"{path} {TOLD}")
+    return text
+
+
+def scope(file):
+    """What a file imports: a name to where it is declared, and a prefix to the names behind it."""
+    found = {}
+    for text in file.imports:
+        path, names, alias = USE.match(text).groups()
+        for word in (names or "").split(","):
+            name, _, short = word.strip().partition(" as ")
+            found[short.strip() or name] = (path, name)
+        if alias:
+            found[alias] = (path, None)
+    return found
 
 
 class Repository:
     def __init__(self, root):
         self.files = {}
         crates = os.path.join(root, "crates")
-        for name in glob.glob("*/specs/*.antt", root_dir=crates) + glob.glob("*/src/*.rt", root_dir=crates):
+        for name in sorted(name for kind in KINDS for name in glob.glob(kind, root_dir=crates)):
             made = antt.File if name.endswith(".antt") else rt.File
             self.files[name] = made(name, read(os.path.join(crates, name)))
         self.crates = {name.split("/")[0] for name in self.files}
-        self.scopes = {name: self.scope(file) for name, file in self.files.items()}
-
-    def scope(self, file):
-        """What a file imports: a name to where it is declared, and a prefix to the names behind it."""
-        found = {}
-        for text in file.imports:
-            path, names, alias = USE.match(text).groups()
-            for word in (names or "").split(","):
-                name, _, short = word.strip().partition(" as ")
-                found[short.strip() or name] = (path, name)
-            if alias:
-                found[alias] = (path, None)
-        return found
+        self.scopes = {name: scope(file) for name, file in self.files.items()}
 
     def imported(self, path, name):
         """The declaration that an import names, or None where it is one of the kit's."""
@@ -44,11 +54,10 @@ class Repository:
         if not match or match.group(1) not in self.crates:
             return None
         crate, where, rest = match.groups()
-        if where == "proofs":
-            return self.in_source(crate, rest.split(".")[0])
-        if rest.startswith("declared."):
-            return self.in_source(crate, rest.split(".")[1])
-        return self.declared(f"{crate}/specs/{rest}.antt", name)
+        first, *more = rest.split(".")
+        if first in MADE:
+            return self.in_source(crate, more[0])
+        return self.declared(f"{crate}/{where}/{first}.antt", name)
 
     def in_source(self, crate, name):
         """The type or function of this name among a crate's sources."""
@@ -66,7 +75,7 @@ class Repository:
     def resolve(self, path, word):
         """What a word in this file stands for: one of its own declarations, or an import."""
         file, scope = self.files[path], self.scopes[path]
-        for name in (word, f"_{word}_"):
+        for name in (word, f"◌{word}◌"):
             if name in file.names and path.endswith(".antt"):
                 return file.names[name]
             if name in scope:
@@ -89,7 +98,7 @@ class Repository:
     def is_constructor(self, path, word):
         """Whether the word is a constructor or a variant in this file."""
         file, scope = self.files[path], self.scopes[path]
-        for name in (word, f"_{word}_"):
+        for name in (word, f"◌{word}◌"):
             if name in file.names:
                 return file.names[name].kind == "data" and file.names[name].name != name
             if name in scope:

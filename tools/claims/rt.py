@@ -8,6 +8,7 @@ FN = re.compile(r"^(pub )?(extern \"C\" )?fn (\w+)")
 TYPE = re.compile(r"^(pub )?(struct|enum) (\w+)")
 CONST = re.compile(r"^(pub )?(const) (\w+)")
 CLAUSE = re.compile(r"(requires|ensures)\b")
+LABEL = re.compile(r"\b(requires|ensures)\s+\w+\s*\{")
 WORD = re.compile(r"\b(?:\w+::)*[A-Z]\w*")
 
 
@@ -100,5 +101,6 @@ def names_in_contract(one):
     """The names of definitions that a contract cites, but for the function's own parameters."""
     signature, clauses = stated(one)
     names = Names(lambda word: False)
-    names.text(tokens(joined(clauses)), set(re.findall(r"(\w+):(?!:)", joined(signature))) | {"self"})
+    said = LABEL.sub(r"\1 {", joined(clauses))
+    names.text(tokens(said), set(re.findall(r"(\w+):(?!:)", joined(signature))) | {"self"})
     return names.used - {"requires", "ensures"}

@@ -4,10 +4,13 @@ import os
 import antt
 import rt
 
-# The files of the claims; the first begins with the index.
-CLAIMS = [f"crates/claims/specs/{name}.antt" for name in ("Claims", "Tie", "Exports")]
-RUNNING = "crates/claims/specs/Running.antt"
-SAMPLES = "crates/claims/specs/Samples.antt"
+# The files of the claims, each in specs/, in proofs/ or in both: the theorems, the contracts of the calls and those of
+# the exported functions; what is said of running calls, and the papers' samples.
+THEOREMS, TIE, EXPORTS, RUNNING, SAMPLES = "Claims", "Tie", "Exports", "Running", "Samples"
+CLAIMS = (THEOREMS, TIE, EXPORTS)
+FOLDERS = ("specs", "proofs")
+# With this line the index begins.
+BEGIN = "-- THE INDEX."
 
 
 class Sources:
@@ -25,6 +28,24 @@ class Sources:
     def exists(self, path):
         return os.path.exists(os.path.join(self.root, path))
 
+    def places(self, name):
+        """The paths of the claims' files of this name."""
+        paths = [f"crates/claims/{folder}/{name}.antt" for folder in FOLDERS]
+        return [path for path in paths if self.exists(path)]
+
+    def declared(self, name):
+        """What the claims' files of this name declare."""
+        return [one for path in self.places(name) for one in self.file(path).declared]
+
+    def place(self, name, text):
+        """The first of the claims' files of this name that has this text."""
+        return next(path for path in self.places(name) if text in self.text(path))
+
+    @property
+    def index(self):
+        """The file that begins with the index."""
+        return self.place(THEOREMS, BEGIN)
+
     def file(self, path):
         """What a file declares."""
         if path not in self.parsed:
@@ -41,5 +62,5 @@ class Sources:
 
 def claimed(sources):
     """The public theorems and abbreviations of the claims, each with its file and its line."""
-    found = [one for path in CLAIMS for one in sources.file(path).declared]
+    found = [one for name in CLAIMS for one in sources.declared(name)]
     return {one.name: (one.file, one.head[0].number) for one in found if one.public}

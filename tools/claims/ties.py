@@ -3,24 +3,27 @@ Exports.antt, and the words in which a claim speaks of a call that runs."""
 import re
 
 from antt import CLOSING, OPENING, code_lines, joined, tokens
-from sources import CLAIMS, RUNNING
+from repository import scope
+from rt import names_in_contract
+from sources import EXPORTS, RUNNING, THEOREMS, TIE
 
 # The only heads that a section may have: one parameter more would be a hypothesis of every theorem below it.
 CONTRACTS = (
-    "module _ {M : Type 1} (𝓤 : URA M) (H : Heap 𝓤) (A : Atoms 𝓤) (mem : Memory → SProp 𝓤) "
-    "(run : Routine → Fun 𝓤) where",
+    "module _ {M : Type 1} {𝓤 : Ura M} (𝓛 : Logic 𝓤) (mem : Memory → SProp 𝓤) (run : Routine → Fun 𝓤) where",
 )
 LISTS = (
-    "module _ (n : ℕ) (lent : Storage) (begun : startOf n lent .answer .refusal ≡ 0) (calls : List Call) where",
+    "module _ (n : ℕ) (lent : Storage) (begun : (start_of n lent).answer.refusal ≡ 0) (calls : List Call) where",
     "module _ (n : ℕ) (lent : Storage) (calls : List Call) (s : State) (made : Called n lent calls s) where",
 )
-HEADS = dict(zip(CLAIMS, (LISTS, CONTRACTS, CONTRACTS)))
+HEADS = {THEOREMS: LISTS, TIE: CONTRACTS, EXPORTS: CONTRACTS}
 # The crates whose public functions are tied: the file of the entries, what stands before a name, and what it loses.
 TIES = [
-    ("tracker", CLAIMS[1], "", ""),
-    ("report", CLAIMS[1], "", ""),
-    ("foreign", CLAIMS[2], "exported-", "tracker_|log_"),
+    ("tracker", TIE, "", ""),
+    ("report", TIE, "", ""),
+    ("foreign", EXPORTS, "exported-", "tracker_|log_"),
 ]
+# The exported functions, and the C functions of the same names and contracts.
+PLAIN, FOR_C = "crates/foreign/src/lib.rt", "crates/foreign_c/src/lib.rt"
 # The section of Running.antt with the words for what a call gave, and the name that the result has in them.
 SECTION, NEXT = "-- WHAT THE CONTRACTS SAY", re.compile(r"-- [A-Z]{2,}")
 RESULTS = ("r", "written")
@@ -31,44 +34,72 @@ ENDS = (")", "}", ",", ";", "→", "↔", "×", "⊎", "≡")
 def faults_of_heads(sources):
     """Sections whose head is none of those that their file may have."""
     found = []
-    for path, heads in HEADS.items():
-        for one in sources.file(path).declared:
+    for name, heads in HEADS.items():
+        for one in sources.declared(name):
             around = [" ".join(joined(head).split()) for head in one.around]
             if around and (len(around) > 1 or around[0] not in heads):
-                found.append((path, one.around[-1][0].number, f"the section of {one.name} has another head"))
+                found.append((one.file, one.around[-1][0].number, f"the section of {one.name} has another head"))
     return found
 
 
 def is_tied(crate, function, entry, text):
     """Whether the entry of this name says of the function's whole contract what it is."""
-    brought = re.search(rf"use Rattle·{crate}\.proofs\.{function} as (\S+)", text)
+    brought = re.search(rf"use Rattle\.{crate}\.specs\.contracts\.{function} as (\S+)", text)
     if not brought or len(re.findall(rf"use \S+ as {re.escape(brought[1])}(?!\S)", text)) != 1:
         return False
-    return f"pub {entry} : {brought[1]}.clauses 𝓤 H A mem run ≡ Ensures 𝓤 {brought[1]}.ended " in text
+    return f"pub {entry} : {brought[1]}.clauses 𝓛 mem run ≡ Ensures 𝓤 {brought[1]}.ended " in text
 
 
 def faults_of_ties(sources):
     """Public functions whose contract has no entry of their name."""
     found = []
-    for crate, path, before, lost in TIES:
-        text = " ".join(joined(code_lines(sources.text(path))).split())
-        for one in sources.file(f"crates/{crate}/src/lib.rt").declared:
+    for crate, name, before, lost in TIES:
+        texts = [" ".join(joined(code_lines(sources.text(path))).split()) for path in sources.places(name)]
+        for one in functions(sources, f"crates/{crate}/src/lib.rt"):
             entry = before + re.sub(f"^({lost})", "", one.name).replace("_", "-") + "-contract"
-            if one.kind == "fn" and one.public and not is_tied(crate, one.name, entry, text):
-                found.append((one.file, one.head[0].number, f"no entry {entry} for {one.name} in {path}"))
+            if not any(is_tied(crate, one.name, entry, text) for text in texts):
+                found.append((one.file, one.head[0].number, f"no entry {entry} for {one.name} in {name}.antt"))
+    return found
+
+
+def functions(sources, path):
+    """The public functions of a source file."""
+    return [one for one in sources.file(path).declared if one.kind == "fn" and one.public]
+
+
+def said_of(one, imports):
+    """A function's parameters, answer and contract, and where the words of the contract are brought from."""
+    words = names_in_contract(one)
+    named = {word: imports[name] for word in words for name in (word, f"◌{word}◌") if name in imports}
+    return joined(one.head).replace('extern "C" ', ""), named
+
+
+def faults_of_exports(sources):
+    """Exported functions without a C function that says just the same, and C functions of no exported one."""
+    plain, for_c = ({one.name: one for one in functions(sources, path)} for path in (PLAIN, FOR_C))
+    imports = [scope(sources.file(path)) for path in (PLAIN, FOR_C)]
+    lacking = [one for name, one in plain.items() if name not in for_c]
+    found = [(one.file, one.head[0].number, f"no C function {one.name}") for one in lacking]
+    for name, one in for_c.items():
+        at = (one.file, one.head[0].number)
+        if name not in plain:
+            found.append((*at, f"the C function {name} is of no function of {PLAIN}"))
+        elif said_of(plain[name], imports[0]) != said_of(one, imports[1]):
+            found.append((*at, f"the C function {name} says something else than the function of {PLAIN}"))
     return found
 
 
 def gave(sources):
-    """The words for what a call gave, each with its line and the place of the result among its arguments."""
-    rows = sources.text(RUNNING).split("\n")
-    begin = next((k for k, row in enumerate(rows, 1) if row.startswith(SECTION)), len(rows))
-    end = next((k for k, row in enumerate(rows[begin:], begin + 1) if NEXT.match(row)), len(rows))
+    """The words for what a call gave, each with its file and line and the place of the result among its arguments."""
     found = {}
-    for one in sources.file(RUNNING).declared:
-        inside = begin < one.head[0].number < end
-        if inside and one.public and one.kind == "abbrev" and joined(one.head).endswith("→ Type 0"):
-            found[one.name] = (one.head[0].number, place_of_result(tokens(joined(one.body))))
+    for path in sources.places(RUNNING):
+        rows = sources.text(path).split("\n")
+        begin = next((k for k, row in enumerate(rows, 1) if row.startswith(SECTION)), len(rows))
+        end = next((k for k, row in enumerate(rows[begin:], begin + 1) if NEXT.match(row)), len(rows))
+        for one in sources.file(path).declared:
+            inside = begin < one.head[0].number < end
+            if inside and one.public and one.kind == "abbrev" and joined(one.head).endswith("→ Type 0"):
+                found[one.name] = ((path, one.head[0].number), place_of_result(tokens(joined(one.body))))
     return found
 
 
@@ -81,14 +112,14 @@ def place_of_result(clause):
 def faults_of_words(sources):
     """Words for what a call gave that have no result, or that no contract is stated in or no claim supposes."""
     words = gave(sources)
-    entries = [one for one in sources.file(CLAIMS[1]).declared if one.name.endswith("-contract")]
+    entries = [one for one in sources.declared(TIE) if one.name.endswith("-contract")]
     tied = {word for one in entries for word in tokens(joined(one.head))}
-    supposed = {word for one in sources.file(CLAIMS[0]).declared for word, _, _ in hypotheses(words, one)}
-    found = [] if words else [(RUNNING, 1, f"no word under {SECTION[3:]}")]
-    for word, (line, place) in words.items():
-        found += [(RUNNING, line, f"{word} has no result")] if place is None else []
-        found += [] if word in tied else [(RUNNING, line, f"{word} is in no entry of {CLAIMS[1]}")]
-        found += [] if word in supposed else [(RUNNING, line, f"{word} is a hypothesis of no theorem of {CLAIMS[0]}")]
+    supposed = {word for one in sources.declared(THEOREMS) for word, _, _ in hypotheses(words, one)}
+    found = [] if words else [(sources.places(RUNNING)[0], 1, f"no word under {SECTION[3:]}")]
+    for word, (at, place) in words.items():
+        found += [(*at, f"{word} has no result")] if place is None else []
+        found += [] if word in tied else [(*at, f"{word} is in no entry of {TIE}.antt")]
+        found += [] if word in supposed else [(*at, f"{word} is a hypothesis of no theorem of {THEOREMS}.antt")]
     return found
 
 
@@ -171,7 +202,7 @@ def faults_of_hypotheses(sources):
     """Theorems that suppose what a call gave and do not speak of the result; and those on what a call does (what-..)
     that suppose nothing of it."""
     words, found = gave(sources), []
-    for one in sources.file(CLAIMS[0]).declared:
+    for one in sources.declared(THEOREMS):
         supposed = hypotheses(words, one)
         silent = [word for word, *rest in supposed if not says_something(words, word, *rest)]
         told = [f"supposes {word} and says nothing of its result" for word in silent]
@@ -182,5 +213,5 @@ def faults_of_hypotheses(sources):
 
 def faults(sources):
     """All that is wrong with the ties."""
-    found = faults_of_heads(sources) + faults_of_ties(sources)
+    found = faults_of_heads(sources) + faults_of_ties(sources) + faults_of_exports(sources)
     return found + faults_of_words(sources) + faults_of_hypotheses(sources)

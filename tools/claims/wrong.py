@@ -3,7 +3,8 @@ import re
 
 import papers
 from entries import index_of
-from sources import CLAIMS, RUNNING
+from sources import EXPORTS, RUNNING, THEOREMS, TIE
+from ties import FOR_C, PLAIN, SECTION
 
 
 def chosen(text):
@@ -77,14 +78,15 @@ def wrong_entries(text, head, body):
 def wrong_ties(sources):
     """Copies with an entry that lacks, or is of another function or another contract, and of a new call."""
     copy = lambda path, old, new: (path, sources.text(path).replace(old, new))
-    tie, exports, source = *CLAIMS[1:], "crates/tracker/src/lib.rt"
+    tie, exports = (sources.place(name, "-contract :") for name in (TIE, EXPORTS))
+    source = "crates/tracker/src/lib.rt"
     told, size = "no entry enable-contract for enable", "no entry size-of-contract for size_of"
     more = sources.text(source) + "\npub fn one_more(n: u32) -> u32\n{\n    n\n}\n"
     twice = sources.text(tie).replace("size-it", "tags-it")
     return [
         ("an entry that lacks", *copy(tie, "enable-it.clauses", "disable-it.clauses"), told),
         ("a contract that requires something", *copy(tie, "Ensures 𝓤 enable-it", "Asks 𝓤 enable-it"), told),
-        ("an entry of another function", *copy(tie, "proofs.enable as", "proofs.disable as"), told),
+        ("an entry of another function", *copy(tie, "contracts.enable as", "contracts.disable as"), told),
         ("a call more", source, more, "no entry one-more-contract for one_more"),
         ("an entry that states another contract", *copy(tie, " size-it.", " tags-it."), size),
         ("one word for two contracts", tie, twice, size),
@@ -94,39 +96,63 @@ def wrong_ties(sources):
     ]
 
 
+def wrong_exports(sources):
+    """Copies with a C function that lacks, that says something else, or that is of no exported function."""
+    copy = lambda path, old, new: (path, sources.text(path).replace(old, new))
+    other = "the C function tracker_start says something else"
+    alone = "\npub fn one_more(n: u32) -> u32\n    ensures { result ≡ n }\n{\n    n\n}\n"
+    more = sources.text(FOR_C) + alone.replace("pub fn", 'pub extern "C" fn')
+    said = "{ outcome_in result tags.new policies.new counts.new flows.new ≡ start_of n"
+    return [
+        ("a C function that lacks", *copy(FOR_C, " tracker_start(", " tracker_starts("), "no C function tracker_start"),
+        ("a C function of another name", *copy(FOR_C, " tracker_start(", " tracker_starts("), "is of no function"),
+        ("a C function more", FOR_C, more, "the C function one_more is of no function"),
+        ("an exported function more", PLAIN, sources.text(PLAIN) + alone, "no C function one_more"),
+        ("a C function of another contract", *copy(FOR_C, said, f"{said} + 1"), other),
+        ("a C function with another parameter", *copy(FOR_C, "start(\n    n: u32", "start(\n    n: u64"), other),
+        ("a C function in other words", *copy(FOR_C, "specs.Outcome.{start_of", "specs.Others.{start_of"), other),
+        ("a C function with a clause more", *copy(FOR_C, said, f"{{ n < 2 }}\n    ensures {said}"), other),
+    ]
+
+
 def wrong_heads(sources):
     """Copies with one hypothesis more for a whole section."""
     copy = lambda path, old, new: (path, sources.text(path).replace(old, new))
+    tie, exports = (sources.place(name, "-contract :") for name in (TIE, EXPORTS))
+    listed, running = sources.place(THEOREMS, "pub demand-3 "), sources.place(THEOREMS, "pub called-demand-3 ")
     told, last, calls = "has another head", "(run : Routine → Fun 𝓤) where", "(calls : List Call) where"
     return [
-        ("one more for the contracts", *copy(CLAIMS[1], last, last[:-5] + "(no : ⊥) where"), told),
-        ("one more for the exports", *copy(CLAIMS[2], last, last[:-5] + "\n    (no : ⊥) where"), told),
-        ("one more for the lists", *copy(CLAIMS[0], calls, calls[:-5] + "(no : ⊥) where"), told),
-        ("one more for calls that run", *copy(CLAIMS[0], "calls s) where", "calls s) (no : ⊥) where"), told),
-        ("a section more", CLAIMS[1], sources.text(CLAIMS[1]) + "\nmodule _ (no : ⊥) where\n  more : ⊥\n", told),
-        ("a section within", CLAIMS[1], sources.text(CLAIMS[1]) + "\n  module _ (no : ⊥) where\n    more : ⊥\n", told),
+        ("one more for the contracts", *copy(tie, last, last[:-5] + "(no : ⊥) where"), told),
+        ("one more for the exports", *copy(exports, last, last[:-5] + "\n    (no : ⊥) where"), told),
+        ("one more for the lists", *copy(listed, calls, calls[:-5] + "(no : ⊥) where"), told),
+        ("one more for calls that run", *copy(running, "calls s) where", "calls s) (no : ⊥) where"), told),
+        ("a section more", tie, sources.text(tie) + "\nmodule _ (no : ⊥) where\n  more : ⊥\n", told),
+        ("a section within", tie, sources.text(tie) + "\n  module _ (no : ⊥) where\n    more : ⊥\n", told),
     ]
 
 
 def wrong_words(sources):
     """Copies with a word for what a call gave that no contract or no claim has."""
-    running, start = sources.text(RUNNING), "\nabbrev pub StartGave :"
+    words, tie = sources.place(RUNNING, SECTION), sources.place(TIE, "(TagsGave")
+    theorems = sources.place(THEOREMS, "→ StartGave ")
+    running, start = sources.text(words), "\nabbrev pub StartGave :"
     more = running.replace(start, f"\nabbrev pub MoreGave : ℕ → Type 0\nMoreGave r = r ≡ 0\n{start}")
-    untied = sources.text(CLAIMS[1]).replace("(TagsGave", "(Told") + "\nmore : State → ℕ → Tags → TagsGave s c r\n"
-    unsupposed = re.sub(r"→ StartGave [^→]*→", "→", sources.text(CLAIMS[0]))
+    untied = sources.text(tie).replace("(TagsGave", "(Told") + "\nmore : State → ℕ → Tags → TagsGave s c r\n"
+    unsupposed = re.sub(r"→ StartGave [^→]*→", "→", sources.text(theorems))
     return [
-        ("a word that no contract has", RUNNING, more, "MoreGave is in no entry"),
-        ("a word that an entry lost", CLAIMS[1], untied, "TagsGave is in no entry"),
-        ("a word that no theorem has", CLAIMS[0], unsupposed, "StartGave is a hypothesis of no theorem"),
-        ("a word without a result", RUNNING, more.replace("MoreGave r", "MoreGave n"), "MoreGave has no result"),
-        ("no word", RUNNING, running.replace("WHAT THE CONTRACTS SAY", "What they say"), "no word under"),
+        ("a word that no contract has", words, more, "MoreGave is in no entry"),
+        ("a word that an entry lost", tie, untied, "TagsGave is in no entry"),
+        ("a word that no theorem has", theorems, unsupposed, "StartGave is a hypothesis of no theorem"),
+        ("a word without a result", words, more.replace("MoreGave r", "MoreGave n"), "MoreGave has no result"),
+        ("no word", words, running.replace("WHAT THE CONTRACTS SAY", "What they say"), "no word under"),
     ]
 
 
 def wrong_hypotheses(sources):
     """Copies with a theorem that supposes what a call gave, and says nothing of it."""
-    theorem = lambda said: f"{sources.text(CLAIMS[0])}\npub one-more : {said}\n"
-    start, does = "StartGave n lent r left", "StartDoes n lent (startOf n lent)"
+    theorems = sources.index
+    theorem = lambda said: f"{sources.text(theorems)}\npub one-more : {said}\n"
+    start, does = "StartGave n lent r left", "StartDoes n lent (start_of n lent)"
     tally = "TallyAnswered bs lent out r → TallyLeft bs lent r tags policies counts → Told bs"
     copies = [
         ("nothing of the result", f"(r : Answered) (left : Storage) → {start} → {does}", "StartGave"),
@@ -137,15 +163,16 @@ def wrong_hypotheses(sources):
         ("another result of that name", f"(r : Answered) → {start} → (k r : ℕ) → r ≡ r", "StartGave"),
         ("nothing of the output", "TallyWrote bs lent out written → Told out", "TallyWrote"),
     ]
-    found = [(name, CLAIMS[0], theorem(said), f"one-more supposes {word}") for name, said, word in copies]
-    nothing = f"{sources.text(CLAIMS[0])}\npub what-more-does : (n : ℕ) (lent : Storage) → {does}\n"
-    return found + [("no hypothesis on the call", CLAIMS[0], nothing, "what-more-does supposes of no call")]
+    found = [(name, theorems, theorem(said), f"one-more supposes {word}") for name, said, word in copies]
+    nothing = f"{sources.text(theorems)}\npub what-more-does : (n : ℕ) (lent : Storage) → {does}\n"
+    return found + [("no hypothesis on the call", theorems, nothing, "what-more-does supposes of no call")]
 
 
 def copies(sources):
     """All wrong copies."""
-    text = sources.text(CLAIMS[0])
+    text = sources.text(sources.index)
     parts = text.split("\nuse ", 1)
     indexes = wrong_names(text, *parts) + wrong_quotations(text, *parts) + wrong_entries(text, *parts)
-    found = [(name, CLAIMS[0], *rest) for name, *rest in indexes]
-    return found + wrong_ties(sources) + wrong_heads(sources) + wrong_words(sources) + wrong_hypotheses(sources)
+    found = [(name, sources.index, *rest) for name, *rest in indexes]
+    found += wrong_ties(sources) + wrong_exports(sources) + wrong_heads(sources)
+    return found + wrong_words(sources) + wrong_hypotheses(sources)

@@ -70,7 +70,7 @@
 -- 'A closing names only the channel number': `Event` (model/specs/Model.antt), `fields_of` (eventlog/specs/Answer.antt), `disable` (tracker/src/lib.rt)
 -- 'It takes no tag away': disable-changes-no-set, disable-has-nothing-to-propagate
 -- 'Two channels may have the same ends': enable-joins-exactly-if, enable-answers-by-the-table (no row asks for other ends than before)
--- 'Closing one leaves the other open': disable-takes-the-flow-out, enabled-is-standing; `alike-flow-stays` (model/specs/Bench.antt)
+-- 'Closing one leaves the other open': disable-takes-the-flow-out, enabled-is-standing; `alike-flow-stays` (model/proofs/Bench.antt)
 -- 'An opening's number is greater than that of every opening accepted before in this book': greatest-is-greatest, each-event-joined,
 --   enable-answers-by-the-table, enable-puts-the-flow-last
 -- 'A refused opening uses up no number': refused-call-changes-nothing, an-event-that-does-not-changes-nothing
