@@ -41,7 +41,7 @@ pub struct Answered {
 }
 
 // What a call comes to: what it gives back, the flow table after it, and which of its records it may have changed: those from `first` up to `end`.
-#[derive(Drop)]
+#[derive(Clone, Copy)]
 pub struct Change {
     pub answered: Answered,
     pub first: usize,
