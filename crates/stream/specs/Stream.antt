@@ -1,10 +1,10 @@
 -- What a read says, what reading to the end gives, and what a line shows of a name. Assumes nothing.
-use Rattle.std.specs.Prelude.{ℕ, zero, suc, ◌≤◌, ◌<◌, Bool, true, false, cond, eqb, ltb, List, [], ◌∷◌, ◌++◌, length, take, Option, Result, Ok, Err}
+use Rattle.std.specs.Prelude.{ℕ, zero, suc, ◌≤◌, ◌<◌, Bool, true, false, cond, eqb, ltb, List, [], ◌∷◌, ◌++◌, length, take, ◌⊎◌, Option, Result, Ok, Err}
 use Rattle.std.specs.declared.io.Error.{Error}
 use Rattle.std.specs.declared.io.ErrorKind.{ErrorKind}
 use Rattle.std.specs.declared.io.ErrorKind.TheVariants.{Interrupted}
 use Rattle.std.specs.IoError.{error_kind}
-use Rattle.std.specs.Io.KnownBytes.{Keeps, Consumes, IsAtEnd}
+use Rattle.std.specs.Io.KnownBytes.{Keeps, Consumes, Appends, IsAtEnd}
 use Rattle.stream.specs.declared.Step.{Step}
 use Rattle.stream.specs.declared.Step.TheVariants.{More, End, Again, Failed}
 use Rattle.stream.specs.declared.Input.{Input}
@@ -62,3 +62,16 @@ visible_byte b = cond (ltb b 32) 63 (cond (eqb b 127) 63 b)
 -- a line about a failure: what failed, a colon, a space, the reason and a newline
 abbrev pub line_of : List ℕ → List ℕ → List ℕ
 line_of what reason = what ++ (58 ∷ 32 ∷ []) ++ reason ++ (10 ∷ [])
+
+-- of a writer whose bytes are known: a beginning of these, or all of them, came behind those that it had
+unfoldable pub Begins : Option (List ℕ) → Option (List ℕ) → List ℕ → Type 0
+Begins old new text = (n : ℕ) × (n ≤ length text) × Appends old new (take n text)
+
+-- the line about a failure came, or a beginning of it
+abbrev pub Says : Option (List ℕ) → Option (List ℕ) → List ℕ → Type 0
+Says old new what = (reason : List ℕ) × Begins old new (line_of what reason)
+
+-- what printing a text does to the output and to the errors: all of the text came and no line, or a beginning of it and
+-- the line of what failed
+unfoldable pub Prints : Option (List ℕ) → Option (List ℕ) → Option (List ℕ) → Option (List ℕ) → List ℕ → List ℕ → Type 0
+Prints out out-new errors errors-new text what = (Appends out out-new text × Keeps errors errors-new) ⊎ (Begins out out-new text × Says errors errors-new what)

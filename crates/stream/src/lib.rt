@@ -8,7 +8,7 @@
 ghost use Rattle.std.specs.Prelude.{◌≡◌, map, ◌-◌, ◌<◌, ◌++◌, length, take, drop, OnOk};
 ghost use Rattle.std.specs.Io.KnownBytes.{Appends};
 ghost use Rattle.std.specs.IoError.{error_kind};
-ghost use Rattle.stream.specs.Stream.{step_of, is_interrupted, visible_byte, line_of, Moves, Brings, Within, Came};
+ghost use Rattle.stream.specs.Stream.{step_of, is_interrupted, visible_byte, line_of, Moves, Brings, Within, Came, Begins, Says, Prints};
 
 use std::io;
 use std::io::{ErrorKind, Read, Write};
@@ -95,35 +95,51 @@ fn is_interrupted(error: &io::Error) -> bool
     error.kind() == ErrorKind::Interrupted
 }
 
-// Writes all of `text` to `out` and lets it go, the last that a program prints. If a write fails, a line on `errors` has
-// `what` and the reason. (std closes standard output only where the program ends, and a file without an answer.)
-pub fn print_and_close<W: Write + Drop, E: Write>(
-    mut out: W,
-    errors: &mut E,
-    text: &[u8],
-    what: &[u8],
-) {
-    if let Err(error) = print_whole(&mut out, text) {
+// Writes all of `text` to `out`, the last that a program prints, since its end closes standard output. If a write fails,
+// a line on `errors` has `what` and the reason.
+pub fn print_and_close<W: Write, E: Write>(out: &mut W, errors: &mut E, text: &[u8], what: &[u8])
+    ensures { Prints (W.contents out.old) (W.contents out.new) (E.contents errors.old) (E.contents errors.new) text.now what.now }
+{
+    if let Err(error) = write_whole(out, text) {
         fail(errors, what, error);
     }
 }
 
-// Writes all of `text`, and hands on what the writer kept back.
-fn print_whole<W: Write>(out: &mut W, text: &[u8]) -> io::Result<()>
-    ensures { OnOk result (Appends (W.contents out.old) (W.contents out.new) text.now) }
+// Writes all of `text`, and hands on what the writer kept back. A short write is followed by another, and an
+// interrupted one is tried again, as a read is.
+fn write_whole<W: Write>(out: &mut W, text: &[u8]) -> io::Result<()>
+    ensures begins { Begins (W.contents out.old) (W.contents out.new) text.now }
+    ensures whole { OnOk result (Appends (W.contents out.old) (W.contents out.new) text.now) }
 {
-    out.write_all(text)?;
+    let mut done = 0;
+    let mut tries = u64::MAX;
+    while done < text.len() {
+        match out.write(&text[done..]) {
+            Ok(0) => return Err(io::Error::new(ErrorKind::WriteZero, "No byte was taken")),
+            Ok(more) => done += more,
+            Err(error) => {
+                if !is_interrupted(&error) {
+                    return Err(error);
+                }
+                if tries == 0 {
+                    return Err(error);
+                }
+                tries -= 1;
+            }
+        }
+    }
     out.flush()
 }
 
-// Writes a line to `errors`: what failed, as the caller names it, a colon and the system's text for the reason. Where
-// that fails too, nobody can be told.
-pub fn fail<E: Write>(errors: &mut E, what: &[u8], error: io::Error) {
+// Writes a line to `errors`: what failed, as the caller names it, a colon and the system's text for the reason.
+pub fn fail<E: Write>(errors: &mut E, what: &[u8], error: io::Error)
+    ensures { Says (E.contents errors.old) (E.contents errors.new) what.now }
+{
     let mut text = io::Cursor::new([0u8; 320]);
     let _ = write!(text, "{error}");
     let n = (text.position() as usize).min(320);
     let reason = std::str::from_utf8(&text.get_ref()[..n]).unwrap_or("");
-    let _ = say(errors, what, without_number(reason).as_bytes());
+    say(errors, what, without_number(reason).as_bytes());
 }
 
 // The text of an error without its number, which `Display` puts behind it.
@@ -134,14 +150,21 @@ fn without_number(text: &str) -> &str {
     }
 }
 
-// Writes the line that has `what` and `reason`.
-pub fn say<E: Write>(errors: &mut E, what: &[u8], reason: &[u8]) -> io::Result<()>
-    ensures { OnOk result (Appends (E.contents errors.old) (E.contents errors.new) (line_of what.now reason.now)) }
+// Writes the line that has `what` and `reason`. Where that fails, nobody can be told.
+pub fn say<E: Write>(errors: &mut E, what: &[u8], reason: &[u8])
+    ensures { Begins (E.contents errors.old) (E.contents errors.new) (line_of what.now reason.now) }
 {
-    errors.write_all(what)?;
-    errors.write_all(b": ")?;
-    errors.write_all(reason)?;
-    errors.write_all(b"\n")
+    let _ = write_line(errors, what, reason);
+}
+
+fn write_line<E: Write>(errors: &mut E, what: &[u8], reason: &[u8]) -> io::Result<()>
+    ensures begins { Begins (E.contents errors.old) (E.contents errors.new) (line_of what.now reason.now) }
+    ensures whole { OnOk result (Appends (E.contents errors.old) (E.contents errors.new) (line_of what.now reason.now)) }
+{
+    write_whole(errors, what)?;
+    write_whole(errors, b": ")?;
+    write_whole(errors, reason)?;
+    write_whole(errors, b"\n")
 }
 
 // Puts a question mark in the place of each control byte of a name, so that a newline in it does not make two lines.
@@ -166,4 +189,77 @@ fn visible(b: u8) -> u8
         return b'?';
     }
     b
+}
+
+#[cfg(test)]
+mod tests {
+    use super::*;
+    use std::test::Fail;
+
+    // Is interrupted, then gives a byte, then fails.
+    #[derive(Drop)]
+    struct Broken {
+        turn: u8,
+    }
+
+    impl Read for Broken {
+        fn read(&mut self, buf: &mut [u8]) -> io::Result<usize> {
+            self.turn = self.turn.saturating_add(1);
+            if self.turn == 1 || buf.is_empty() {
+                return Err(io::Error::from(ErrorKind::Interrupted));
+            }
+            if self.turn == 2 {
+                buf[0] = b'x';
+                return Ok(1);
+            }
+            Err(io::Error::from_raw_os_error(5))
+        }
+    }
+
+    #[test]
+    fn the_end_is_told_from_a_full_buffer(rt: HostRuntime) {
+        let mut buf = [0u8; 3];
+        let short = read_to_end(&mut io::Cursor::new(b"ab"), &mut buf);
+        assert!(rt; matches!(short, Input::Whole(2)));
+        assert_eq!(rt; &buf, b"ab\0");
+        let long = read_to_end(&mut io::Cursor::new(b"abc"), &mut buf);
+        assert!(rt; matches!(long, Input::Full));
+    }
+
+    #[test]
+    fn a_failure_in_mid_stream_is_answered(rt: HostRuntime) {
+        let mut buf = [0u8; 3];
+        let read = read_to_end(&mut Broken { turn: 0 }, &mut buf);
+        assert_eq!(rt; &buf, b"x\0\0");
+        if let Input::Failed(error) = read {
+            assert_eq!(rt; error.raw_os_error(), Some(5));
+        } else {
+            assert!(rt; false);
+        }
+    }
+
+    #[test]
+    fn a_line_has_the_text_of_the_system_without_its_number(rt: HostRuntime) -> Result<(), Fail> {
+        let mut errors = Vec::new(rt.alloc());
+        fail(&mut errors, b"tally: log", io::Error::from_raw_os_error(2));
+        assert_eq!(rt;
+            errors.as_slice(),
+            b"tally: log: No such file or directory\n".as_slice()
+        );
+        Ok(())
+    }
+
+    #[test]
+    fn a_text_that_finds_no_room_is_cut_and_told(rt: HostRuntime) -> Result<(), Fail> {
+        let mut room = [0u8; 3];
+        let mut out = io::Cursor::new(&mut room[..]);
+        let mut errors = Vec::new(rt.alloc());
+        print_and_close(&mut out, &mut errors, b"text", b"tally: output");
+        assert_eq!(rt;
+            errors.as_slice(),
+            b"tally: output: No byte was taken\n".as_slice()
+        );
+        assert_eq!(rt; &room, b"tex");
+        Ok(())
+    }
 }

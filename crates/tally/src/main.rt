@@ -6,7 +6,7 @@ ghost use Rattle.std.specs.Prelude.{◌≡◌, ◌≤◌, length, take};
 ghost use Rattle.io.specs.Counts.{IsPrefixLen};
 ghost use Rattle.stream.specs.Stream.{Within, Came};
 ghost use Rattle.tallytext.specs.Text.{printed_of};
-ghost use Rattle.tally.specs.Program.{shown_of, AsksFor};
+ghost use Rattle.tally.specs.Program.{shown_of, AsksFor, Shows};
 
 use leb128::Encoded;
 use std::env::FillError;
@@ -21,7 +21,7 @@ fn main(rt: HostRuntime) {
     answer(
         &rt,
         &mut rt.stdin(),
-        rt.stdout(),
+        &mut rt.stdout(),
         &mut rt.stderr(),
         &mut line,
     );
@@ -36,10 +36,10 @@ enum Asked {
 }
 
 // Does what the arguments ask for. `line` gets the program's name before the first, as a line on standard error begins.
-fn answer<P: Env + Files, R: Read, W: Write + Drop, E: Write>(
+fn answer<P: Env + Files, R: Read, W: Write, E: Write>(
     rt: &P,
     reader: &mut R,
-    out: W,
+    out: &mut W,
     errors: &mut E,
     line: &mut [u8],
 )
@@ -61,7 +61,7 @@ fn answer<P: Env + Files, R: Read, W: Write + Drop, E: Write>(
         }
         Err(FillError::NotPresent) => show(reader, out, errors, b"tally: standard input"),
         Err(FillError::TooLong) => {
-            let _ = stream::say(errors, b"tally: the argument", b"File name too long");
+            stream::say(errors, b"tally: the argument", b"File name too long")
         }
     }
 }
@@ -91,7 +91,7 @@ fn asked_by(word: &[u8]) -> Asked
     Asked::Neither
 }
 
-fn print_help<W: Write + Drop, E: Write>(out: W, errors: &mut E) {
+fn print_help<W: Write, E: Write>(out: &mut W, errors: &mut E) {
     stream::print_and_close(
         out,
         errors,
@@ -125,9 +125,9 @@ fn say_usage<E: Write>(errors: &mut E) {
 }
 
 // Shows the report of the file whose name is in `line`, from byte 7 up to `end`.
-fn show_file<P: Files, W: Write + Drop, E: Write>(
+fn show_file<P: Files, W: Write, E: Write>(
     rt: &P,
-    out: W,
+    out: &mut W,
     errors: &mut E,
     line: &mut [u8],
     end: usize,
@@ -152,7 +152,10 @@ fn open<P: Files>(rt: &P, name: &[u8]) -> io::Result<P::File> {
 
 // Prints the report of the log that comes from `reader`. If a read fails, a line on standard error has `name` and the
 // reason.
-fn show<R: Read, W: Write + Drop, E: Write>(reader: &mut R, out: W, errors: &mut E, name: &[u8]) {
+fn show<R: Read, W: Write, E: Write>(reader: &mut R, out: &mut W, errors: &mut E, name: &[u8])
+    ensures { Shows (R.remaining reader.old) (R.remaining reader.new)
+        (W.contents out.old) (W.contents out.new) (E.contents errors.old) (E.contents errors.new) name.now }
+{
     let mut input = [0u8; 16385];
     let mut text = [0u8; 264256];
     let ran = run(reader, &mut input, &mut text);
@@ -177,6 +180,7 @@ fn run<R: Read>(reader: &mut R, input: &mut [u8], text: &mut [u8]) -> Ran
     requires { (length input.old ≡ 16385) × (264256 ≤ length text.old) }
     ensures prefix_len { IsPrefixLen result.length text.new }
     ensures text_after { take result.length text.new ≡ shown_of result.read input.new }
+    ensures within { Within result.read 16385 }
     ensures came { Came (R.remaining reader.old) (R.remaining reader.new) result.read input.new }
 {
     let read = stream::read_to_end(reader, input);

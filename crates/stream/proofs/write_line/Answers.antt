@@ -1,0 +1,22 @@
+-- Part by part. Assumes nothing.
+use Rattle.std.proofs.KnownBytes.{Appends-trans}
+use Rattle.stream.proofs.Writing.{Begins-part, Begins-after}
+use Rattle.stream.proofs.write_line.Goals as goal
+
+pub returns-in_err-write_whole-clause-begins : goal.returns-in_err-write_whole-clause-begins
+returns-in_err-write_whole-clause-begins g c = Begins-part _ _ _ _ (Begins-part _ _ _ _ (Begins-part _ _ c.args.what.now _ c.write_whole.ensures.begins))
+
+pub returns-in_err-write_whole-2-clause-begins : goal.returns-in_err-write_whole-2-clause-begins
+returns-in_err-write_whole-2-clause-begins g c =
+    Begins-part _ _ _ _ (Begins-part _ _ _ _ (Begins-after _ _ _ c.args.what.now _ c.in_ok-write_whole.ensures.whole c.write_whole-2.ensures.begins))
+
+pub returns-in_err-write_whole-3-clause-begins : goal.returns-in_err-write_whole-3-clause-begins
+returns-in_err-write_whole-3-clause-begins g c =
+    let colon = Appends-trans _ _ _ c.args.what.now _ c.in_ok-write_whole.ensures.whole c.in_ok-write_whole-2.ensures.whole in
+    Begins-part _ _ _ _ (Begins-after _ _ _ _ c.args.reason.now colon c.write_whole-3.ensures.begins)
+
+pub returns-clause-begins : goal.returns-clause-begins
+returns-clause-begins g c =
+    let colon = Appends-trans _ _ _ c.args.what.now _ c.in_ok-write_whole.ensures.whole c.in_ok-write_whole-2.ensures.whole in
+    let reason = Appends-trans _ _ _ _ c.args.reason.now colon c.in_ok-write_whole-3.ensures.whole in
+    Begins-after _ _ _ _ _ reason c.write_whole-4.ensures.begins
