@@ -1,4 +1,4 @@
-//! Links the proved library: target/staticlib/libforeign.a, which `rt staticlib foreign` writes.
+//! Links the proved library: target/staticlib/libforeign.a, a copy of what `rt lib` writes in crates/foreign_c.
 use std::path::Path;
 
 fn main() {

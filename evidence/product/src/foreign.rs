@@ -1,4 +1,5 @@
-//! The exported functions of crates/foreign and their records, field by field. A slice is two arguments, its pointer and its length.
+//! The C functions of crates/foreign_c and the records of crates/foreign, field by field. A slice is two arguments, its
+//! pointer and its length.
 use interface::{Flow, Header};
 
 #[repr(C)]

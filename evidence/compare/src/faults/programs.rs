@@ -1,5 +1,5 @@
 //! Wrong programs, each made from the source of `tally` by one edit that the prover admits, since no contract can say
-//! what C's functions read and write; the cases of the program must find each.
+//! what a file or standard input brings and what a write takes; the cases of the program must find each.
 
 /// A wrong program: its name, and the text of one source file that is replaced. The text is in that file exactly
 /// once.
@@ -24,28 +24,38 @@ pub fn edits() -> Vec<Edit> {
         edit(
             PROGRAM,
             "another length is handed on than was read",
-            "let read = stream::read_to_end(fd, input);",
-            "stream::read_to_end(fd, input);\n    let read = Input::Whole(25);",
+            "let ran = run(reader, &mut input, &mut text);",
+            "stream::read_to_end(reader, &mut input);
+    let length = report_of(&input, Input::Whole(25), &mut text);
+    let ran = Ran { read: Input::Whole(25), length };",
         ),
         edit(
-            STREAM,
+            PROGRAM,
             "a failed read is taken for the end",
-            "Step::Failed => return Input::Failed,",
-            "Step::Failed => return Input::Whole(done),",
+            "        stream::fail(errors, name, error);
+        return;
+    }
+    let length = ran.length;",
+            "        let _ = error;
+    }
+    let length = match read {
+        Input::Failed(_) => report_of_bytes(&[], &mut text),
+        _ => ran.length,
+    };",
         ),
         edit(
             PROGRAM,
             "standard input is read where a file is named",
-            "show(fd, &line[..end]);",
-            "show(libc::STDIN_FILENO, &line[..end]);",
+            "Asked::File => show_file(rt, out, errors, line, end),",
+            "Asked::File => show(reader, out, errors, &line[..end]),",
         ),
         edit(STREAM, "an interrupted read is not tried again", "let mut tries = u64::MAX;", "let mut tries: u64 = 0;"),
-        edit(STREAM, "a failed write is not told", "os::fail(what);", "return;"),
+        edit(STREAM, "a failed write is not told", "        fail(errors, what, error);", "        let _ = error;"),
         edit(
-            STREAM,
-            "a failed close is not told",
-            "if libc::close(libc::STDOUT_FILENO) == 0 {",
-            "if libc::close(libc::STDOUT_FILENO) < 1 {",
+            PROGRAM,
+            "a file that cannot be opened is not told",
+            "Err(error) => stream::fail(errors, &line[..end], error),",
+            "Err(_) => {}",
         ),
     ]
 }

@@ -50,7 +50,8 @@ fn names() -> Vec<Case> {
         text("in a folder", Setup::given(&[b"folder/../log"]).with(Made::Folder("folder")).with(file(b"log"))),
         text("a name with a space", on_file(b"a log", &EXAMPLE)),
         text("a name with a newline", on_file(b"a\nlog", &EXAMPLE)),
-        text("a name of bytes above 127", on_file(b"\xff\xfe\x80", &EXAMPLE)),
+        text("a name of letters above 127", on_file(LETTERS, &EXAMPLE)),
+        fails("tally FILE, a name that is not UTF-8", NO_TEXT, on_file(NO_TEXT, &EXAMPLE), NOT_UTF_8),
         text("a name of 255 bytes", on_file(&[b'x'; 255], &EXAMPLE)),
         text("a name of one byte", on_file(b"x", &EXAMPLE)),
         text("-x given as ./-x", Setup::given(&[b"./-x"]).with(file(b"-x"))),
@@ -63,9 +64,14 @@ fn names() -> Vec<Case> {
     ]
 }
 
-/// Every byte that a name can have.
-fn every_byte() -> Vec<u8> {
-    (1..=255).collect()
+/// A name of letters whose bytes are all above 127, one that is no text, and the reason with which that is refused.
+const LETTERS: &[u8] = "æøå\u{7ff}\u{ffff}\u{10ffff}".as_bytes();
+const NO_TEXT: &[u8] = b"\xff\xfe\x80";
+const NOT_UTF_8: &str = "The name is not UTF-8";
+
+/// Every byte that a name can have, up to this one.
+fn every_byte(last: u8) -> Vec<u8> {
+    (1..=last).collect()
 }
 
 /// Names of nothing.
@@ -80,7 +86,14 @@ fn missing() -> Vec<Case> {
         not_there("not there, with a newline", b"not\nthere"),
         not_there("not there, with a newline at the end", b"nothing\n"),
         not_there("not there, a newline alone", b"\n"),
-        not_there("not there, with every byte but 0", &every_byte()),
+        not_there("not there, with every byte but 0 up to 127", &every_byte(127)),
+        not_there("not there, with letters above 127", LETTERS),
+        fails(
+            "tally FILE, not there, with every byte but 0",
+            &every_byte(255),
+            Setup::given(&[&every_byte(255)]),
+            NOT_UTF_8,
+        ),
         not_there("-x given as ./-x, not there", b"./-x"),
         fails(
             "tally FILE, a file as a folder",

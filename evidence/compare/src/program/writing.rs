@@ -1,7 +1,7 @@
 //! Cases of standard output that cannot take the text, or takes it in many pieces.
 use super::case::Case;
 use super::failing::errnos;
-use super::judge::{line, Expected, Printed, Said, Text};
+use super::judge::{Expected, Printed, Said, Text};
 use super::logs::{longest_text, ring, EXAMPLE, EXAMPLE_TEXT, REFUSED};
 use super::setup::{Output, Setup};
 
@@ -84,26 +84,20 @@ fn broken_off() -> Vec<Case> {
     ]
 }
 
-/// The close of standard output fails after the text was written, or after it was not.
+/// A close of standard output would fail after the text was written, or after it was not. The program leaves the close
+/// to the system, which tells nobody.
 fn failed_closes() -> Vec<Case> {
-    let closed = |bytes: &[u8], reason: &str| Expected {
-        printed: Printed::Whole(Text::of(bytes)),
-        said: Said::Line(line(OUTPUT, reason)),
+    let setup = |bytes: &[u8], words: &str| {
+        let mut setup = Setup::from_file(bytes).closes(words);
+        setup.script.closes_may_be_left = true;
+        setup
     };
-    let setup = |bytes: &[u8], words: &str| Setup::from_file(bytes).closes(words);
-    let late = "Input/output error";
-    let mut both = Setup::from_file(&EXAMPLE).writes("10 ENOSPC").closes("EIO");
-    // Nothing says whether standard output is closed where the text was not written.
-    both.script.closes_may_be_left = true;
+    let both = setup(&EXAMPLE, "EIO").writes("10 ENOSPC");
     vec![
-        Case::one("tally, a close of standard output that fails", setup(&EXAMPLE, "EIO"), closed(&EXAMPLE, late)),
-        Case::one("tally, a close that finds no space left", setup(&EXAMPLE, "ENOSPC"), closed(&EXAMPLE, FULL)),
-        Case::one("tally, a refused log and a close that fails", setup(&REFUSED, "EIO"), closed(&REFUSED, late)),
-        Case::one(
-            "tally, the ring of 256 and a close that fails",
-            setup(&ring().bytes, "EIO"),
-            closed(&ring().bytes, late),
-        ),
+        Case::text("tally, a close of standard output that would fail", setup(&EXAMPLE, "EIO"), &EXAMPLE),
+        Case::text("tally, a close that would find no space left", setup(&EXAMPLE, "ENOSPC"), &EXAMPLE),
+        Case::text("tally, a refused log and a close that would fail", setup(&REFUSED, "EIO"), &REFUSED),
+        Case::text("tally, the ring of 256 and a close that would fail", setup(&ring().bytes, "EIO"), &ring().bytes),
         Case::one("tally, a failed write before a close that would fail", both, Expected::part(&EXAMPLE, FULL)),
     ]
 }

@@ -8,16 +8,21 @@ use std::io;
 use std::path::{Path, PathBuf};
 use std::process::Command;
 
-/// What a build needs of the repository: its list of crates, the crates, and what is proved and built already.
-const COPIED: [&str; 4] = ["crates.txt", "crates", "target/rlib", "target/stamp"];
+/// The line of the shell that copies what a build needs of the repository: its list of crates, and the crates without
+/// what rt keeps in them. (rt begins with what it kept of the same crates here.)
+const COPYING: &str = "tar -c --exclude='crates/*/out' crates.txt crates | tar -x -C \"$0\"";
 /// Where the program is, from the repository's top.
 const PROGRAM: &str = "target/bin/tally";
 /// Where the copies are, from the repository's top.
 const COPIES: &str = "target/evidence/wrong";
 /// How many copies there are, in each of which one wrong program after the other is built.
 const LANES: usize = 2;
-/// The command that proves and builds the program.
-pub const BUILDER: [&str; 3] = ["rt", "check", "tally"];
+/// The command that proves and builds the program, and puts it where it must be. (rt runs it once, on the example.)
+pub const BUILDER: [&str; 3] = [
+    "sh",
+    "-c",
+    "cd crates/tally && rt run < stdin && mkdir -p ../../target/bin && cp out/tally ../../target/bin/tally",
+];
 /// The lines of a failed build that are shown.
 const LINES: usize = 12;
 
@@ -40,13 +45,11 @@ impl Copy {
         if copy.top.exists() {
             fs::remove_dir_all(&copy.top)?;
         }
-        for part in COPIED {
-            let to = copy.top.join(part);
-            fs::create_dir_all(to.parent().unwrap_or(&copy.top))?;
-            let status = Command::new("cp").arg("-r").arg(top.join(part)).arg(&to).status()?;
-            if !status.success() {
-                return Err(io::Error::other(format!("{part} could not be copied")));
-            }
+        fs::create_dir_all(&copy.top)?;
+        let into = copy.top.canonicalize()?;
+        let status = Command::new("sh").args(["-c", COPYING]).arg(into).current_dir(top).status()?;
+        if !status.success() {
+            return Err(io::Error::other("the crates could not be copied"));
         }
         Ok(copy)
     }
@@ -150,19 +153,25 @@ mod tests {
     /// What is used for `rt`: it refuses a source with the word FAIL, and else takes the source, a script, as the
     /// program.
     const BUILD: &str = "if grep -q FAIL crates/tally/src/main.rt; then echo not proved; exit 1; fi
+if [ -e crates/tally/out/kept ]; then echo copied; exit 1; fi
 mkdir -p target/bin && cp crates/tally/src/main.rt target/bin/tally && chmod 755 target/bin/tally
 ";
     /// What is used for the source: a script that prints one word.
     const SOURCE: &str = "#!/bin/sh\n# a comment\ncat > /dev/null\necho right\n";
 
-    /// A repository with this source.
+    /// A repository with this source, and with something kept that no copy has.
     fn repository() -> io::Result<Room> {
         let room = Room::new()?;
-        for folder in ["crates/tally/src", "target/rlib", "target/stamp", "target/bin"] {
+        for folder in ["crates/tally/src", "crates/tally/out", "target/bin"] {
             fs::create_dir_all(room.at(folder))?;
         }
-        let files =
-            [("crates.txt", ""), ("crates/build", BUILD), ("crates/tally/src/main.rt", SOURCE), (PROGRAM, SOURCE)];
+        let files = [
+            ("crates.txt", ""),
+            ("crates/build", BUILD),
+            ("crates/tally/src/main.rt", SOURCE),
+            ("crates/tally/out/kept", "kept"),
+            (PROGRAM, SOURCE),
+        ];
         for (file, text) in files {
             fs::write(room.at(file), text)?;
         }
