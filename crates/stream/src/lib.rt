@@ -112,7 +112,7 @@ fn write_whole<W: Write>(out: &mut W, text: &[u8]) -> io::Result<()>
     ensures whole { OnOk result (Appends (W.contents out.old) (W.contents out.new) text.now) }
 {
     let mut done = 0;
-    let mut tries = u64::MAX;
+    let mut again = u64::MAX;
     while done < text.len() {
         match out.write(&text[done..]) {
             Ok(0) => return Err(io::Error::new(ErrorKind::WriteZero, "No byte was taken")),
@@ -121,10 +121,10 @@ fn write_whole<W: Write>(out: &mut W, text: &[u8]) -> io::Result<()>
                 if !is_interrupted(&error) {
                     return Err(error);
                 }
-                if tries == 0 {
+                if again == 0 {
                     return Err(error);
                 }
-                tries -= 1;
+                again -= 1;
             }
         }
     }

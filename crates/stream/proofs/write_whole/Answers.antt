@@ -22,8 +22,8 @@ pub returns-then-not-is_interrupted-clause-begins : goal.returns-then-not-is_int
 returns-then-not-is_interrupted-clause-begins g c =
     let at = c.loop-done in none-written _ _ _ c.args.text.now at.done at.invariant.within at.invariant.wrote c.in-Err.ensures.bytes
 
-pub returns-then-tries-eq0-clause-begins : goal.returns-then-tries-eq0-clause-begins
-returns-then-tries-eq0-clause-begins g c =
+pub returns-then-again-eq0-clause-begins : goal.returns-then-again-eq0-clause-begins
+returns-then-again-eq0-clause-begins g c =
     let at = c.loop-done in none-written _ _ _ c.args.text.now at.done at.invariant.within at.invariant.wrote c.in-Err.ensures.bytes
 
 pub returns-clause-begins : goal.returns-clause-begins

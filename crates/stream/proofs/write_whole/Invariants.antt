@@ -1,4 +1,4 @@
--- The first bytes of the text were written; what is left of it and of the tries falls. Assumes nothing.
+-- The first bytes of the text were written; what is left of it and of the tries (`again`) falls. Assumes nothing.
 use Rattle.std.proofs.Common.{length, ◌-◌, ◌+◌, ◌≤◌, take}
 use Rattle.std.specs.Io.KnownBytes.{Appends}
 use Rattle.stream.proofs.write_whole.Given as goal
@@ -10,4 +10,4 @@ invariant-loop-done g l = record {
 }
 
 abbrev pub decreases-loop-done : goal.decreases-loop-done
-decreases-loop-done g l = (length l.fn.text - l.done) + l.tries
+decreases-loop-done g l = (length l.fn.text - l.done) + l.again
