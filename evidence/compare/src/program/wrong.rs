@@ -102,11 +102,15 @@ impl Search<'_> {
     fn look_for(&self, copy: &Copy, edit: &Edit) -> io::Result<String> {
         let file = copy.top.join(edit.file);
         let source = fs::read_to_string(&file)?;
-        let times = source.matches(edit.old).count();
-        if times != 1 {
-            return Ok(format!("NOT BUILT: {}: what it replaces is {times} times in {}", edit.name, edit.file));
+        let mut edited = source.clone();
+        for (old, new) in edit.changes {
+            let times = source.matches(old).count();
+            if times != 1 {
+                return Ok(format!("NOT BUILT: {}: what it replaces is {times} times in {}", edit.name, edit.file));
+            }
+            edited = edited.replace(old, new);
         }
-        fs::write(&file, source.replace(edit.old, edit.new))?;
+        fs::write(&file, edited)?;
         let line = self.tried(copy, edit);
         fs::write(&file, source)?;
         line
@@ -187,8 +191,8 @@ mkdir -p target/bin && cp crates/tally/src/main.rt target/bin/tally && chmod 755
     }
 
     /// An edit of the source.
-    fn edit(name: &'static str, old: &'static str, new: &'static str) -> Edit {
-        Edit { name, file: "crates/tally/src/main.rt", old, new }
+    fn edit(name: &'static str, changes: &'static [(&'static str, &'static str)]) -> Edit {
+        Edit { name, file: "crates/tally/src/main.rt", changes }
     }
 
     /// A wrong program is found, one that is right is named as not found, and one that is not built as that; the
@@ -200,12 +204,12 @@ mkdir -p target/bin && cp crates/tally/src/main.rt target/bin/tally && chmod 755
         let cases = || vec![Case::new("its word", prints_right)];
         let search = Search { bench: &bench, builder: &["sh", "crates/build"], cases };
         let edits = [
-            edit("another word", "echo right", "echo wrong"),
-            edit("another comment", "a comment", "another comment"),
-            edit("not provable", "a comment", "FAIL"),
-            edit("not there", "nowhere", "here"),
-            edit("twice there", "i", "j"),
-            edit("no word", "echo right", "true"),
+            edit("another word", &[("echo right", "echo wrong")]),
+            edit("another comment", &[("a comment", "another comment")]),
+            edit("not provable", &[("a comment", "FAIL")]),
+            edit("not there", &[("nowhere", "here")]),
+            edit("twice there", &[("a comment", "FAIL"), ("i", "j")]),
+            edit("no word", &[("a comment", "no comment"), ("echo right", "true")]),
         ];
         let mut lines = Vec::new();
         assert_eq!(search.find_all(&edits, &mut |line| lines.push(line)).unwrap(), 2);
