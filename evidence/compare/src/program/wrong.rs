@@ -13,8 +13,6 @@ use std::process::Command;
 const COPYING: &str = "tar -c --exclude='crates/*/out' crates.txt crates | tar -x -C \"$0\"";
 /// Where the program is, from the repository's top.
 const PROGRAM: &str = "target/bin/tally";
-/// Where the copies are, from the repository's top.
-const COPIES: &str = "target/evidence/wrong";
 /// How many copies there are, in each of which one wrong program after the other is built.
 const LANES: usize = 2;
 /// The command that proves and builds the program, and puts it where it must be. (rt runs it once, on the example.)
@@ -33,21 +31,23 @@ pub fn top_of(program: &Path) -> io::Result<PathBuf> {
     top.map(Path::to_path_buf).ok_or_else(|| io::Error::other(format!("the program is not {PROGRAM} of a repository")))
 }
 
-/// A copy of the repository, which is removed when it is no longer used.
+/// A copy of the repository, which is removed when it is no longer used. It is outside, where rt takes it for no part of
+/// the repository.
 struct Copy {
     top: PathBuf,
 }
 
 impl Copy {
+    /// Where the copy of this lane is.
+    fn place(lane: usize) -> PathBuf {
+        std::env::temp_dir().join(format!("tally-wrong-{}-{lane}", std::process::id()))
+    }
+
     /// Copies what a build needs; the copy of each lane is another.
     fn new(top: &Path, lane: usize) -> io::Result<Copy> {
-        let copy = Copy { top: top.join(COPIES).join(lane.to_string()) };
-        if copy.top.exists() {
-            fs::remove_dir_all(&copy.top)?;
-        }
-        fs::create_dir_all(&copy.top)?;
-        let into = copy.top.canonicalize()?;
-        let status = Command::new("sh").args(["-c", COPYING]).arg(into).current_dir(top).status()?;
+        let copy = Copy { top: Copy::place(lane) };
+        fs::create_dir(&copy.top)?;
+        let status = Command::new("sh").args(["-c", COPYING]).arg(&copy.top).current_dir(top).status()?;
         if !status.success() {
             return Err(io::Error::other("the crates could not be copied"));
         }
@@ -222,7 +222,7 @@ mkdir -p target/bin && cp crates/tally/src/main.rt target/bin/tally && chmod 755
             "found: no word by its word",
         ];
         assert_eq!(lines, lines_due);
-        assert!((0..LANES).all(|lane| !room.at(COPIES).join(lane.to_string()).exists()));
+        assert!((0..LANES).all(|lane| !Copy::place(lane).exists()));
         assert_eq!(fs::read_to_string(room.at("crates/tally/src/main.rt")).unwrap(), SOURCE);
     }
 
