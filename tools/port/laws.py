@@ -1,8 +1,8 @@
 #!/usr/bin/env python3
 """Moves the laws of specs/ to proofs/, statements unchanged, in the crates that have an edit of a definition: such an edit
 counts only where no theorem of specs/ rests on the definition. A file of both kinds is split: what is defined stays, what
-is proved goes to the file of the same name in proofs/. Every import of the repository is brought over. A second run only
-brings over imports that still name the old place.
+is proved goes to the file of the same name in proofs/. Every import of the repository is brought over. The names that went
+are left in tools/port/laws-CRATE.txt: with these there, a second run only brings over imports that name the old place.
 
 A block is a run of lines from one at column 0 up to the next. It is a definition where each of its declarations is an
 abbrev, unfoldable, a record or a data type, and none rests on what is proved."""
