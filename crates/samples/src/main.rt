@@ -25,7 +25,7 @@ struct Room {
 
 fn main(rt: HostRuntime) -> io::Result<()> {
     let mut script = Vec::new(rt.alloc());
-    rt.reader().take(32768).read_to_end(&mut script)?;
+    let _ = rt.reader().take(32768).read_to_end(&mut script);
     let n = script.len().min(32768);
     let mut tags = [0u64; 1028];
     let mut policies = [0u64; 4112];

@@ -67,11 +67,11 @@ line_of what reason = what ++ (58 ∷ 32 ∷ []) ++ reason ++ (10 ∷ [])
 unfoldable pub Begins : Option (List ℕ) → Option (List ℕ) → List ℕ → Type 0
 Begins old new text = (n : ℕ) × (n ≤ length text) × Appends old new (take n text)
 
--- the line about a failure came, or a beginning of it
+-- the line about a failure came, or a beginning of it, perhaps none of it
 abbrev pub Says : Option (List ℕ) → Option (List ℕ) → List ℕ → Type 0
 Says old new what = (reason : List ℕ) × Begins old new (line_of what reason)
 
 -- what printing a text does to the output and to the errors: all of the text came and no line, or a beginning of it and
--- the line of what failed
+-- of the line of what failed, perhaps none of either
 unfoldable pub Prints : Option (List ℕ) → Option (List ℕ) → Option (List ℕ) → Option (List ℕ) → List ℕ → List ℕ → Type 0
 Prints out out-new errors errors-new text what = (Appends out out-new text × Keeps errors errors-new) ⊎ (Begins out out-new text × Says errors errors-new what)

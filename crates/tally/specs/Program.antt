@@ -33,8 +33,8 @@ abbrev pub output_name : List ℕ
 output_name = codes "tally: standard output"
 
 -- what is done to the output and to the errors where reading gave this and left these bytes: after a read that failed no
--- byte is printed and a line has the input's name; otherwise what is printed is the text of what was read, or a beginning
--- of it and then a line has the output's name
+-- byte is printed, and the errors get a beginning of a line with the input's name; otherwise what is printed is the text of
+-- what was read, or a beginning of it, and then the errors get a beginning of a line with the output's name
 unfoldable pub Answers : Input → List ℕ → Option (List ℕ) → Option (List ℕ) → Option (List ℕ) → Option (List ℕ) → List ℕ → Type 0
 Answers (Input.Failed error) bytes out out-new errors errors-new name = Keeps out out-new × Says errors errors-new name
 Answers read bytes out out-new errors errors-new name = Prints out out-new errors errors-new (shown_of read bytes) output_name

@@ -112,7 +112,6 @@ fn command(bench: &Bench, setup: &Setup, room: &Room) -> io::Result<Command> {
 fn shell_line(setup: &Setup) -> Option<String> {
     let before = match setup.output {
         Output::Limited(_) => "trap '' XFSZ; ulimit -f 1; ",
-        Output::Broken => "trap '' PIPE; ",
         _ => "",
     };
     let closed = [
