@@ -112,6 +112,7 @@ fn command(bench: &Bench, setup: &Setup, room: &Room) -> io::Result<Command> {
 fn shell_line(setup: &Setup) -> Option<String> {
     let before = match setup.output {
         Output::Limited(_) => "trap '' XFSZ; ulimit -f 1; ",
+        Output::Broken => "trap '' PIPE; ",
         _ => "",
     };
     let closed = [
@@ -197,7 +198,7 @@ fn give_output(command: &mut Command, output: Output, room: &Room) -> io::Result
             let (reader, writer) = open_fifo(&path, NONBLOCK)?;
             (Stdio::from(writer), Collected::File(reader, 0))
         }
-        Output::Broken => (Stdio::from(io::pipe()?.1), Collected::Nowhere),
+        Output::Broken | Output::BrokenBySignal => (Stdio::from(io::pipe()?.1), Collected::Nowhere),
         Output::Full => (Stdio::from(OpenOptions::new().write(true).open("/dev/full")?), Collected::Nowhere),
         Output::ReadOnly => {
             fs::write(&path, b"")?;

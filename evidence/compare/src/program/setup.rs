@@ -43,6 +43,8 @@ pub enum Output {
     Stuck,
     /// A pipe whose reader has closed it, with the signal for that ignored.
     Broken,
+    /// The same, with the signal for it as a program gets it by default.
+    BrokenBySignal,
     /// The device that is always full.
     Full,
     /// A file that is open for reading alone.

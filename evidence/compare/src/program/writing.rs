@@ -41,6 +41,7 @@ fn unwritable() -> Vec<Case> {
         fails("tally, closed standard output", into(Output::Closed), "Bad file descriptor"),
         fails("tally, standard output open for reading alone", into(Output::ReadOnly), "Bad file descriptor"),
         fails("tally, a pipe that nobody reads any more", into(Output::Broken), "Broken pipe"),
+        fails("tally, such a pipe with SIGPIPE as it is by default", into(Output::BrokenBySignal), "Broken pipe"),
         Case::one("tally, standard output and error closed", into(Output::Closed).errors_closed(), unseen),
     ]
 }
