@@ -65,7 +65,8 @@ def replace(text, new):
 def main():
     for f, new in FIRST.items():
         text = open(f).read()
-        open(f, 'w').write(replace(text, new))
+        if not any(re.search(WORD % re.escape(word), text) for word in new.values()):
+            open(f, 'w').write(replace(text, new))
     names = declared()
     camel = parts(names)
     new = {w: PARTS.get(w, snake(w)) for w in camel}
