@@ -1,5 +1,5 @@
--- WHICH POLICY SETS A CONTAINER HAS after a list of calls, found from n and the calls' arguments alone; when it may then be sent; and which questions are
--- answered after such a list. Assumes nothing.
+-- Which policy sets a container has after a list of calls, found from n and the calls' arguments alone. When it may
+-- then be sent, and which questions are answered after such a list: proofs/Permission.antt. Assumes nothing.
 use Rattle.std.specs.Prelude.{◌≡◌, Bool, true, ◌&&◌, not, cond, ℕ, ◌<◌, ltb, eqb, get_or}
 use mathlib.Core.List.{List, [], ◌∷◌, ◌++◌}
 use Rattle.std.proofs.Math.ListN.{length}

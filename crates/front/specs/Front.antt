@@ -1,4 +1,5 @@
--- Every outcome goes by the first 512 records of the flow table and leaves the records behind them, whatever the lengths of the lists. Assumes nothing.
+-- A state, an outcome and a replay with the first 512 records of the flow table, and with others behind them. That
+-- every outcome goes by the first and leaves the others, whatever the lengths: proofs/Front.antt. Assumes nothing.
 use Rattle.std.specs.Prelude.{List, ◌++◌, take}
 use Rattle.model.specs.declared.Flow.{Flow}
 use Rattle.state.specs.State.{Storage, State, storage_of}

@@ -1,5 +1,5 @@
--- The model computed: the traps of the bench (document 01) and Example 1 of document 000, whose events are accepted, whose concrete execution leaves
--- what table 1a says, and in which another order of the same executions leaves less. Assumes nothing.
+-- Example 1 of document 000, its events and executions of these, and one of the traps of the bench (document 01). What
+-- they leave is computed in proofs/Bench.antt. Assumes nothing.
 use Rattle.std.specs.Prelude.{refl, Bool, true, false, List, [], ◌∷◌}
 use mathlib.Core.List.Memᴰ
 use Rattle.model.specs.Model.{◌∈◌, flow, Event, enable, disable, History, empty, ◌▸◌, keep, without, enabled, Execution, begin, event, exec}

@@ -1,9 +1,7 @@
--- Warshall's closure is the reflexive and transitive closure of the ways, where these have both their ends below n (`reaches-enabled`).
--- Assumes nothing.
+-- Ways that have both their ends below n. That Warshall's closure of these is the reflexive and transitive one:
+-- `reaches-enabled`, proofs/Closure.antt. Assumes nothing.
 use Rattle.std.specs.Prelude.{List, ℕ, ◌<◌}
 use Rattle.model.specs.Model.{◌∈◌}
-
--- THE CLOSURE
 
 -- every way has both its ends below n
 abbrev pub Within : ℕ → List (ℕ × ℕ) → Type 0

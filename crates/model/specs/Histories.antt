@@ -1,4 +1,5 @@
--- Flows and the accepted history in the papers' words. Assumes nothing.
+-- Accepted histories in the papers' words: which there are, what occurs in them, and when an enable may join. That they
+-- are the ones computed, and Flows of one event more: proofs/Histories.antt. Assumes nothing.
 use Rattle.std.specs.Prelude.{◌≡◌, true, ◌≢◌, ℕ, ◌<◌, length}
 use Rattle.model.specs.Closure.{Within}
 use Rattle.model.specs.declared.Flow.{Flow}

@@ -1,5 +1,6 @@
--- Propositions 1 and 2 of document 000, and the one execution that brings all that Flows relates. An execution of a flow goes along one enabled
--- way, and what Flows relates is closed under these; two executions of a history merge into one with the pairs of both. Assumes nothing.
+-- Configurations compared, the greatest execution of a history, and a configuration that has just the pairs of Flows.
+-- Propositions 1 and 2 of document 000, and the one execution that brings all that Flows relates:
+-- proofs/Propositions.antt. Assumes nothing.
 use Rattle.std.specs.Prelude.{◌≡◌, true, ◌↔◌, ℕ}
 use Rattle.model.specs.Model.{History, Flows}
 use Rattle.model.specs.Model.{Configuration, Execution, configuration}
@@ -15,6 +16,6 @@ abbrev pub ◌⊑◌ : Configuration → Configuration → Type 0
 abbrev pub IsGreatest : (n : ℕ) {h : History} → Execution h → Type 0
 IsGreatest n {h} x = (y : Execution h) → configuration n y ⊑ configuration n x
 
--- THE THEOREM, with no word of a tracker. A configuration that has exactly the pairs of Flows
+-- a configuration that has exactly the pairs of Flows
 abbrev pub Tells : ℕ → History → Configuration → Type 0
 Tells n h θ = (c t : ℕ) → (θ c t ≡ true) ↔ Flows n h t c

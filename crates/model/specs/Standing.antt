@@ -1,10 +1,8 @@
--- A flow is enabled exactly if it was enabled and since then no event disabled its number (`standing`: document 000, section 3.2).
--- Assumes nothing.
+-- A flow that was enabled, and that no event has disabled since (document 000, section 3.2). That these are the flows
+-- enabled: `standing`, proofs/Standing.antt. Assumes nothing.
 use Rattle.std.specs.Prelude.{◌≢◌}
 use Rattle.model.specs.declared.Flow.{Flow}
 use Rattle.model.specs.Model.{Event, enable, disable, History, ◌▸◌}
-
--- ENABLED
 
 -- f was enabled, and since then no event disabled its number
 pub data Standing (f : Flow) : History → Type 0 where

@@ -1,4 +1,5 @@
--- What a call leaves alone: storage past the lengths in use, lengths, n, 64 bits; and its gain counted from the sets. Assumes nothing.
+-- Storages that are the same past the lengths in use. What a call leaves alone, and its gain counted from the sets:
+-- proofs/Effects.antt. Assumes nothing.
 use Rattle.std.specs.Prelude.{◌≡◌, ℕ, ◌*◌, length, drop}
 use Rattle.state.specs.State.{Storage}
 

@@ -1,4 +1,5 @@
--- Accepted calls: which they are, what they leave, and document 01's sentence on the sets after them. Assumes nothing.
+-- What accepted calls leave, in words: document 01's sentence on the sets, a start, flows changed. Which calls are
+-- accepted, and that they leave this: proofs/Steps.antt. Assumes nothing.
 use Rattle.std.specs.Prelude.{◌≡◌, true, List, ◌↔◌, ℕ, ◌*◌, ◌<◌, eqb, length, get_or}
 use mathlib.Mathlib.Logic.Relation.{ReflTransGenᴰ}
 use Rattle.model.specs.declared.Flow.{Flow}

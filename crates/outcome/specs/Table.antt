@@ -1,5 +1,5 @@
--- The table of refusals: which number each call answers, in the paper's words and order. Each condition of an order is what its row says, and the
--- rows leave no case out. Assumes nothing.
+-- The table of refusals: which number each call answers, in the paper's words and order. That each call answers by its
+-- table, whose rows leave no case out: proofs/Table.antt. Assumes nothing.
 use Rattle.std.specs.Prelude.{◌≡◌, true, ◌≢◌, ℕ, ◌≤◌, ◌<◌}
 use Rattle.model.specs.declared.Flow.{Flow}
 use Rattle.model.specs.Model.{◌∈◌}

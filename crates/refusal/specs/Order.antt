@@ -1,5 +1,5 @@
--- An order of refusals is a list of conditions, each with its answer: the first condition that holds decides (document 01, 'Order').
--- Assumes nothing.
+-- An order of refusals is a list of conditions, each with its answer: the first condition that holds decides (document
+-- 01, 'Order'). Its laws: proofs/Order.antt. Assumes nothing.
 use Rattle.std.specs.Prelude.{Bool, cond, List, [], ◌∷◌}
 
 -- the answer beside the first condition that holds, or the other answer where none does

@@ -1,5 +1,5 @@
--- What `bad_size` and `valid_of` test, in the paper's words: each test passes exactly where its sentence holds, and `simp` puts them together.
--- Assumes nothing.
+-- Storage that is long enough and states that are valid, in the paper's words. That `bad_size` and `valid_of` test just
+-- this: proofs/IsValid.antt. Assumes nothing.
 use Rattle.std.specs.Prelude.{◌≡◌, true, List, [], ◌∷◌, ◌≢◌, ℕ, ◌*◌, ◌/◌, ◌%◌, ◌≤◌, ◌<◌, length, get_or}
 use Rattle.model.specs.declared.Flow.{Flow}
 use Rattle.model.specs.Model.{◌∈◌, edges_of}

@@ -1,9 +1,7 @@
--- What is written is read back, lengths stay, and nothing beyond is touched: each written list is a new front before the old rest.
+-- Lists of words of 64 bits. That what is written is read back, and nothing beyond is touched: proofs/LayoutLaws.antt.
 -- Assumes nothing.
 use Rattle.std.specs.Prelude.{List, ℕ, ◌^◌, ◌<◌}
 use Rattle.std.proofs.Math.ListN.{get_or}
-
--- Widths
 
 -- every word has 64 bits
 abbrev pub Fit64 : List ℕ → Type 0

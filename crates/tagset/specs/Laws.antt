@@ -1,5 +1,5 @@
--- The laws of sets of tags: members, the order, what is equal, the bounds of words, and sizes.
--- Assumes nothing.
+-- The tags of one set that another has not. The laws of sets of tags (members, the order, what is equal, sizes):
+-- proofs/Laws.antt. Assumes nothing.
 use Rattle.std.specs.Prelude.{Bool, ◌&&◌, not, ℕ}
 use Rattle.tagset.specs.declared.TagSet.{TagSet}
 use Rattle.tagset.specs.Set.{has}

@@ -1,5 +1,5 @@
--- A set of tags word by word: what its words say of its tags, and what the code makes of the words.
--- Assumes nothing.
+-- Tests of two words that are tests of their bits, and what is left of a word. What the words of a set say of its tags:
+-- proofs/Word.antt. Assumes nothing.
 use Rattle.std.specs.Prelude.{◌≡◌, Bool, true, List, [], ◌∷◌, ℕ, ◌-◌, ◌^◌, ◌<◌, eqb, get_or}
 use Rattle.std.specs.Int.Bits.{bit_and}
 use Rattle.tagset.specs.declared.TagSet.{TagSet}

@@ -1,4 +1,5 @@
--- What the text of `tally` is, line by line, that a buffer of 264,256 bytes always holds it, and what is written where it does not fit. Assumes nothing.
+-- Lines, lists that rise, and the lines of a run's containers. What the text of `tally` is, line by line, and that a
+-- buffer of 264,256 bytes always holds it: proofs/Laws.antt. Assumes nothing.
 use Rattle.std.specs.Prelude.{◌≡◌, List, [], ◌∷◌, ◌++◌, ◌≢◌, ℕ, ◌<◌, length, get_or}
 use Rattle.eventlog.specs.Log.{head_at}
 use Rattle.state.specs.State.{Storage}

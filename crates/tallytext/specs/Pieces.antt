@@ -1,4 +1,5 @@
--- The pieces of a text: what is left behind each of them, and how long they are. Assumes nothing.
+-- The tags of a set from one on. What is left behind each piece of a text, and how long the pieces are:
+-- proofs/Pieces.antt. Assumes nothing.
 use Rattle.std.specs.Prelude.{ℕ, ◌-◌}
 use mathlib.Core.List.{List}
 use Rattle.tagset.specs.declared.TagSet.{TagSet}

@@ -1,4 +1,5 @@
--- The text word by word: a line is its words with single spaces between them and a newline behind. Assumes nothing.
+-- A line of words: single spaces between them and a newline behind. That the text's lines are of this form:
+-- proofs/Words.antt. Assumes nothing.
 use Rattle.std.specs.Prelude.{List, [], ◌∷◌, ◌++◌, ℕ}
 use Rattle.tallytext.specs.Text.{space, newline}
 
