@@ -1,52 +1,24 @@
-// The cores of starting, enabling, disabling and adding a policy set, on plain data: the flow table is an array, with the number of records that were lent.
-// The public calls, which are lent the table, are in the crate tracker; replay goes by `apply_enable` and `apply_disable`.
-// What each answers and leaves stands in outcome/specs/Outcome.antt.
+// Starting, enabling, disabling and adding a policy set, in storage that is lent. What each answers and leaves stands in outcome/specs/Outcome.antt.
+// Replay goes by `apply_enable` and `apply_disable`, which do not judge the state.
 #![tactic(auto)]
 
-ghost use Rattle.std.specs.Prelude.{◌≡◌, List, ℕ, ◌+◌, ◌*◌, ◌≤◌, length, take, drop};
-ghost use Rattle.flowslice.specs.Slice.{stored_in};
-ghost use Rattle.flowtable.specs.FlowTable.{place_of};
+ghost use Rattle.std.specs.Prelude.{◌≡◌, List, ℕ, ◌*◌, ◌≤◌, length};
 ghost use Rattle.model.specs.declared.Flow.{Flow};
 ghost use Rattle.state.specs.State.{storage_of, state_of};
-ghost use Rattle.calls.specs.Replies.{unchanged, left_by};
-ghost use Rattle.calls.specs.Places.{places_by};
-ghost use Rattle.outcome.specs.Outcome.{start_of, enable_of, disable_of, add_of};
+ghost use Rattle.outcome.specs.Outcome.{no_header, start_of, enable_of, disable_of, add_of};
+ghost use Rattle.calls.specs.Replies.{left_by};
 ghost use Rattle.calls.specs.Unjudged.{apply_enable_of, apply_disable_of, apply_add_of};
 
-use flowtable::Found;
 use model::Flow;
-use state::Header;
+use refusal::Refusal;
+use state::{Header, Tracker};
 use tagset::TagSet;
-use validity::Judgement;
 
-// What a call answers: that it is accepted, with its gain, or the refusal (specs/Replies.antt has the paper's numbers).
-#[derive(Clone, Copy)]
-pub enum Reply {
-    Accepted(u32),
-    NoSuchContainer,
-    SelfFlow,
-    StaleNumber,
-    TableFull,
-    NotEnabled,
-    BadSize,
-    PolicyFull,
-    InvalidState,
-}
-
-// What a call gives back: its answer and the header.
-#[derive(Clone, Copy)]
-pub struct Answered {
-    pub reply: Reply,
+// What an accepted call answers: its gain, and the header from now on. A refused one leaves the header as it was.
+#[derive(Clone, Copy, Debug, PartialEq, Eq)]
+pub struct Accepted {
     pub header: Header,
-}
-
-// What a call comes to: what it gives back, the flow table after it, and which of its records it may have changed: those from `first` up to `end`.
-#[derive(Clone, Copy)]
-pub struct Change {
-    pub answered: Answered,
-    pub first: usize,
-    pub end: usize,
-    pub flows: [Flow; 512],
+    pub gain: u32,
 }
 
 // Starts a tracker of n containers in this storage: each container has its own tag alone and no policy set, and no flow is enabled.
@@ -55,32 +27,25 @@ pub fn start(
     tags: &mut [u64],
     policies: &mut [u64],
     counts: &mut [u8],
-    lent: usize,
-    flows: [Flow; 512],
-) -> Change
-    ensures left { left_by result.answered tags.new policies.new counts.new (take lent result.flows) ≡ start_of n (storage_of tags.old policies.old counts.old (take lent flows)) }
-    ensures stored { (stored_in result.first result.end result.flows flows ≡ result.flows) × (drop lent result.flows ≡ drop lent flows) }
-    ensures places { (result.first, result.end) ≡ places_by result.answered 0 512 }
+    flows: &mut [Flow],
+) -> Result<Accepted, Refusal>
+    ensures { left_by result no_header tags.new policies.new counts.new flows.new ≡ start_of n (storage_of tags.old policies.old counts.old flows.old) }
 {
-    if validity::bad_size(n, tags.len(), policies.len(), counts.len(), lent) {
-        return refused(Reply::BadSize, Header::NONE, flows);
+    if validity::bad_size(n, tags.len(), policies.len(), counts.len(), flows.len()) {
+        return Err(Refusal::BadSize);
     }
     tagstore::store_own_tags(tags, n);
-    tagstore::clear_words(policies, 16 * (n as usize));
-    tagstore::clear_bytes(counts, n as usize);
-    Change {
-        answered: Answered {
-            reply: Reply::Accepted(0),
-            header: Header {
-                containers: n,
-                count: 0,
-                greatest: 0,
-            },
+    tagstore::clear(policies, 16 * (n as usize), 0);
+    tagstore::clear(counts, n as usize, 0);
+    tagstore::clear(flows, 512, Flow::NONE);
+    Ok(Accepted {
+        header: Header {
+            containers: n,
+            count: 0,
+            greatest: 0,
         },
-        first: 0,
-        end: 512,
-        flows: [Flow::NONE; 512],
-    }
+        gain: 0,
+    })
 }
 
 // Enables a flow (document 01: an opening). The policy sets are judged with the state, and stay.
@@ -89,19 +54,19 @@ pub fn enable(
     tags: &mut [u64],
     policies: &[u64],
     counts: &[u8],
-    lent: usize,
-    flows: [Flow; 512],
+    flows: &mut [Flow],
     flow: Flow,
-) -> Change
-    ensures left { left_by result.answered tags.new policies.now counts.now (take lent result.flows) ≡ enable_of (state_of header tags.old policies.now counts.now (take lent flows)) flow }
-    ensures stored { (stored_in result.first result.end result.flows flows ≡ result.flows) × (drop lent result.flows ≡ drop lent flows) }
-    ensures places { (result.first, result.end) ≡ places_by result.answered header.count (header.count + 1) }
+) -> Result<Accepted, Refusal>
+    ensures { left_by result header tags.new policies.now counts.now flows.new ≡ enable_of (state_of header tags.old policies.now counts.now flows.old) flow }
 {
-    match validity::judge(header, tags, policies, counts, lent, flows) {
-        Judgement::BadSize => refused(Reply::BadSize, header, flows),
-        Judgement::InvalidState => refused(Reply::InvalidState, header, flows),
-        Judgement::Usable => apply_enable(header, tags, flows, flow),
-    }
+    validity::judge(&Tracker {
+        header,
+        tags,
+        policies,
+        counts,
+        flows,
+    })?;
+    apply_enable(header, tags, flows, flow)
 }
 
 // Disables the flow of this number (document 01: a closing). No set changes.
@@ -110,19 +75,19 @@ pub fn disable(
     tags: &[u64],
     policies: &[u64],
     counts: &[u8],
-    lent: usize,
-    flows: [Flow; 512],
+    flows: &mut [Flow],
     number: u32,
-) -> Change
-    ensures left { left_by result.answered tags.now policies.now counts.now (take lent result.flows) ≡ disable_of (state_of header tags.now policies.now counts.now (take lent flows)) number }
-    ensures stored { (stored_in result.first result.end result.flows flows ≡ result.flows) × (drop lent result.flows ≡ drop lent flows) }
-    ensures places { (result.first, result.end) ≡ places_by result.answered (place_of number (take header.count flows)) header.count }
+) -> Result<Accepted, Refusal>
+    ensures { left_by result header tags.now policies.now counts.now flows.new ≡ disable_of (state_of header tags.now policies.now counts.now flows.old) number }
 {
-    match validity::judge(header, tags, policies, counts, lent, flows) {
-        Judgement::BadSize => refused(Reply::BadSize, header, flows),
-        Judgement::InvalidState => refused(Reply::InvalidState, header, flows),
-        Judgement::Usable => apply_disable(header, flows, number),
-    }
+    validity::judge(&Tracker {
+        header,
+        tags,
+        policies,
+        counts,
+        flows,
+    })?;
+    apply_disable(header, flows, number)
 }
 
 // Adds a policy set to a container (document 01: a permitted set), behind those that it has. It is no event, and changes no record.
@@ -131,94 +96,71 @@ pub fn add_policy(
     tags: &[u64],
     policies: &mut [u64],
     counts: &mut [u8],
-    lent: usize,
-    flows: [Flow; 512],
+    flows: &[Flow],
     container: u32,
     policy: TagSet,
-) -> Answered
-    ensures { left_by result tags.now policies.new counts.new (take lent flows) ≡ add_of (state_of header tags.now policies.old counts.old (take lent flows)) container policy }
+) -> Result<Accepted, Refusal>
+    ensures { left_by result header tags.now policies.new counts.new flows.now ≡ add_of (state_of header tags.now policies.old counts.old flows.now) container policy }
 {
-    match validity::judge(header, tags, policies, counts, lent, flows) {
-        Judgement::BadSize => Answered {
-            reply: Reply::BadSize,
-            header: header,
-        },
-        Judgement::InvalidState => Answered {
-            reply: Reply::InvalidState,
-            header: header,
-        },
-        Judgement::Usable => apply_add(header, policies, counts, container, policy),
-    }
+    validity::judge(&Tracker {
+        header,
+        tags,
+        policies,
+        counts,
+        flows,
+    })?;
+    apply_add(header, policies, counts, container, policy)
 }
 
 // Enables a flow without judging the state: on a usable state (law `apply-enable`) as `enable` does. The policy sets are not looked at.
-pub fn apply_enable(header: Header, tags: &mut [u64], flows: [Flow; 512], flow: Flow) -> Change
-    ensures left { (policies counts : List ℕ) → left_by result.answered tags.new policies counts result.flows ≡ apply_enable_of (state_of header tags.old policies counts flows) flow }
-    ensures stored { stored_in result.first result.end result.flows flows ≡ result.flows }
-    ensures places { (result.first, result.end) ≡ places_by result.answered header.count (header.count + 1) }
+pub fn apply_enable(
+    header: Header,
+    tags: &mut [u64],
+    flows: &mut [Flow],
+    flow: Flow,
+) -> Result<Accepted, Refusal>
+    ensures { (policies counts : List ℕ) → left_by result header tags.new policies counts flows.new ≡ apply_enable_of (state_of header tags.old policies counts flows.old) flow }
 {
-    if header.containers <= flow.from {
-        return refused(Reply::NoSuchContainer, header, flows);
-    }
-    if header.containers <= flow.to {
-        return refused(Reply::NoSuchContainer, header, flows);
+    if header.containers <= flow.from || header.containers <= flow.to {
+        return Err(Refusal::NoSuchContainer);
     }
     if flow.from == flow.to {
-        return refused(Reply::SelfFlow, header, flows);
+        return Err(Refusal::SelfFlow);
     }
     if flow.number <= header.greatest {
-        return refused(Reply::StaleNumber, header, flows);
+        return Err(Refusal::StaleNumber);
     }
     if 512 <= header.count {
-        return refused(Reply::TableFull, header, flows);
+        return Err(Refusal::TableFull);
     }
-    let used = header.count;
-    let count = used + 1;
-    let first = used as usize;
-    let table = flowtable::append(flows, used, flow);
-    let made = propagation::propagate(tags, header.containers, table, count);
-    Change {
-        answered: Answered {
-            reply: Reply::Accepted(made.gain),
-            header: Header {
-                containers: header.containers,
-                count: count,
-                greatest: flow.number,
-            },
+    let count = header.count + 1;
+    flowtable::append(flows, header.count as usize, flow);
+    let end = flows.len().min(count as usize);
+    let made = propagation::propagate(tags, header.containers, &flows[..end]);
+    Ok(Accepted {
+        header: Header {
+            count,
+            greatest: flow.number,
+            ..header
         },
-        first: first,
-        end: first + 1,
-        flows: table,
-    }
+        gain: made.gain,
+    })
 }
 
 // Disables the flow of this number without judging the state: on a usable state (law `apply-disable`) as `disable` does.
-pub fn apply_disable(header: Header, flows: [Flow; 512], number: u32) -> Change
-    ensures left { (tags policies counts : List ℕ) → left_by result.answered tags policies counts result.flows ≡ apply_disable_of (state_of header tags policies counts flows) number }
-    ensures stored { stored_in result.first result.end result.flows flows ≡ result.flows }
-    ensures places { (result.first, result.end) ≡ places_by result.answered (place_of number (take header.count flows)) header.count }
+pub fn apply_disable(header: Header, flows: &mut [Flow], number: u32) -> Result<Accepted, Refusal>
+    ensures { (tags policies counts : List ℕ) → left_by result header tags policies counts flows.new ≡ apply_disable_of (state_of header tags policies counts flows.old) number }
 {
-    let used = header.count;
-    let found = flowtable::find(flows, used, number);
-    let Found::At(place) = found else {
-        return refused(Reply::NotEnabled, header, flows);
-    };
-    let count = used - 1;
-    let first = place as usize;
-    let end = used as usize;
-    Change {
-        answered: Answered {
-            reply: Reply::Accepted(0),
-            header: Header {
-                containers: header.containers,
-                count: count,
-                greatest: header.greatest,
-            },
+    let end = flows.len().min(header.count.min(512) as usize);
+    let place = flowtable::find(&flows[..end], number).ok_or(Refusal::NotEnabled)?;
+    flowtable::remove(&mut flows[..end], place);
+    Ok(Accepted {
+        header: Header {
+            count: header.count - 1,
+            ..header
         },
-        first: first,
-        end: end,
-        flows: flowtable::remove(flows, used, place),
-    }
+        gain: 0,
+    })
 }
 
 // Adds a policy set in storage that is long enough, without judging the state.
@@ -228,49 +170,19 @@ fn apply_add(
     counts: &mut [u8],
     container: u32,
     policy: TagSet,
-) -> Answered
+) -> Result<Accepted, Refusal>
     requires { (header.containers ≤ 256) × (16 * header.containers ≤ length policies.old) × (header.containers ≤ length counts.old) }
-    ensures { (tags : List ℕ) (flows : List Flow) → left_by result tags policies.new counts.new flows ≡ apply_add_of (state_of header tags policies.old counts.old flows) container policy }
+    ensures { (tags : List ℕ) (flows : List Flow) → left_by result header tags policies.new counts.new flows ≡ apply_add_of (state_of header tags policies.old counts.old flows) container policy }
 {
-    if header.containers <= container {
-        return Answered {
-            reply: Reply::NoSuchContainer,
-            header: header,
-        };
-    }
-    if policy.exceeds(header.containers) {
-        return Answered {
-            reply: Reply::NoSuchContainer,
-            header: header,
-        };
+    if header.containers <= container || policy.exceeds(header.containers) {
+        return Err(Refusal::NoSuchContainer);
     }
     let c = container as usize;
     let k = counts[c];
     if 4 <= k {
-        return Answered {
-            reply: Reply::PolicyFull,
-            header: header,
-        };
+        return Err(Refusal::PolicyFull);
     }
-    tagstore::store_set(policies, 4 * c + (k as usize), policy);
+    tagstore::store_set(policies, 4 * c + usize::from(k), policy);
     counts[c] = k + 1;
-    Answered {
-        reply: Reply::Accepted(0),
-        header: header,
-    }
-}
-
-// A refusal: header and flows as they are.
-fn refused(reply: Reply, header: Header, flows: [Flow; 512]) -> Change
-    ensures { result ≡ unchanged reply header flows }
-{
-    Change {
-        answered: Answered {
-            reply: reply,
-            header: header,
-        },
-        first: 0,
-        end: 0,
-        flows: flows,
-    }
+    Ok(Accepted { header, gain: 0 })
 }

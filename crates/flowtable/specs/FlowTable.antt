@@ -1,10 +1,8 @@
 -- The table of enabled flows: a place found, a record removed. Assumes nothing.
-use Rattle.std.specs.Prelude.{cond, List, [], ◌∷◌, ◌++◌, ℕ, suc, eqb, leb, length, take, drop}
+use Rattle.std.specs.Prelude.{cond, Option, Some, None, List, [], ◌∷◌, ◌++◌, ℕ, suc, eqb, leb, length, take, drop}
 use Rattle.model.specs.declared.Flow.{Flow}
 use Rattle.model.specs.Model.{is_enabled}
 use Rattle.state.specs.State.{no_flow}
-use Rattle.flowtable.specs.declared.Found.{Found}
-use Rattle.flowtable.specs.declared.Found.TheVariants.{At, Absent}
 
 -- how many flows stand before the first of this number
 unfoldable pub place_of : ℕ → List Flow → ℕ
@@ -12,8 +10,8 @@ place_of number [] = 0
 place_of number (f ∷ fs) = cond (eqb f.number number) 0 (suc (place_of number fs))
 
 -- its place, where one of the flows has this number
-unfoldable pub found_in : ℕ → List Flow → Found
-found_in number fs = cond (is_enabled number fs) (At (place_of number fs)) Absent
+unfoldable pub found_in : ℕ → List Flow → Option ℕ
+found_in number fs = cond (is_enabled number fs) (Some (place_of number fs)) None
 
 -- of the first `count` records the one in this place is gone, the later ones have moved down by one, the last is zero ('a closing moves the later
 -- records down by one', 'unused records [..] are zero')

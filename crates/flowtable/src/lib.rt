@@ -1,60 +1,36 @@
-// The table of enabled flows, 512 records by value: find, append, remove. Every function answers for any count, place and content.
+// The table of enabled flows, in place: find, append, remove. Every function answers for any length, count, place and content.
 #![tactic(auto)]
 
-ghost use Rattle.std.specs.Prelude.{◌≡◌, set, take};
+ghost use Rattle.std.specs.Prelude.{◌≡◌, length, set};
 ghost use Rattle.flowtable.specs.FlowTable.{found_in, removed_at};
 
 use model::Flow;
 
-// Where a flow stands in the table.
-#[derive(Clone, Copy)]
-pub enum Found {
-    At(u32),
-    Absent,
+// The place of the first flow of this number, if there is one.
+pub fn find(flows: &[Flow], number: u32) -> Option<usize>
+    ensures { result ≡ found_in number flows.now }
+{
+    flows.iter().position(|flow| flow.number == number)
 }
 
-// Finds the flow of this number among the first `count` records.
-pub fn find(flows: [Flow; 512], count: u32, number: u32) -> Found
-    ensures { result ≡ found_in number (take count flows) }
+// Puts the flow behind the first `count` records; changes nothing where there is no place left.
+pub fn append(flows: &mut [Flow], count: usize, flow: Flow)
+    ensures { flows.new ≡ set flows.old count flow }
 {
-    let mut k: u32 = 0;
-    while k < count && k < 512 {
-        let i = k as usize;
-        let f = flows[i];
-        if f.number == number {
-            return Found::At(k);
-        }
-        k += 1;
+    if count < flows.len() {
+        flows[count] = flow;
     }
-    Found::Absent
 }
 
-// The table with the flow behind the first `count` records; unchanged where there is no place left.
-#[tactic(auto, using(crate::proofs::Full::none_past))]
-pub fn append(mut flows: [Flow; 512], count: u32, flow: Flow) -> [Flow; 512]
-    ensures { result ≡ set flows count flow }
+// Takes the record in this place out of the records in use: the later ones move down by one, and the last becomes zero.
+// Changes nothing where they have no such place.
+pub fn remove(flows: &mut [Flow], place: usize)
+    ensures { flows.new ≡ removed_at place (length flows.old) flows.old }
 {
-    if count < 512 {
-        let i = count as usize;
-        flows[i] = flow;
+    if flows.len() <= place {
+        return;
     }
-    flows
-}
-
-// The table without the record in this place of the first `count`: the later ones of these move down by one, and the last becomes zero.
-// Unchanged where they have no such place.
-pub fn remove(mut flows: [Flow; 512], count: u32, place: u32) -> [Flow; 512]
-    ensures { result ≡ removed_at place count flows }
-{
-    let end = if 512 <= count { 512 } else { count as usize };
-    let mut i = place as usize;
-    if end <= i {
-        return flows;
-    }
-    while i + 1 < end {
-        flows[i] = flows[i + 1];
-        i += 1;
-    }
-    flows[i] = Flow::NONE;
-    flows
+    let last = flows.len() - 1;
+    flows.copy_within(place + 1.., place);
+    flows[last] = Flow::NONE;
 }

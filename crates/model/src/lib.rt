@@ -2,7 +2,7 @@
 #![tactic(auto)]
 
 #[repr(C)]
-#[derive(Clone, Copy)]
+#[derive(Clone, Copy, Debug, PartialEq, Eq)]
 pub struct Flow {
     pub number: u32,
     pub from: u32,

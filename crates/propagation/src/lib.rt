@@ -1,7 +1,7 @@
 // Tags carried along the enabled flows (document 01: the spread), pass by pass, up to the first pass that adds none.
 #![tactic(auto)]
 
-ghost use Rattle.std.specs.Prelude.{◌≡◌, ◌++◌, ℕ, ◌*◌, ◌≤◌, length, take, drop};
+ghost use Rattle.std.specs.Prelude.{◌≡◌, ◌++◌, ℕ, ◌*◌, ◌≤◌, length};
 ghost use Rattle.model.specs.Model.{edges, edges_of};
 ghost use Rattle.propagation.specs.Found.{Found};
 ghost use Rattle.propagation.specs.Pass.{carried, new_tags, carried_all, new_in_all, passed, new_in_passes, passes_of, pass_count, sets_after, pairs_added};
@@ -15,27 +15,24 @@ pub struct Propagated {
     pub passes: u32,
 }
 
-// Carries the tags of the first `containers` sets along the first `count` flows. It answers for any numbers and words: sets that the words do not
-// have, and those past the 256th, are left out, and so is a flow with such an end.
-pub fn propagate(tags: &mut [u64], containers: u32, flows: [Flow; 512], count: u32) -> Propagated
-    ensures sets { tags.new ≡ sets_after containers (take count flows) tags.old }
-    ensures passes { result.passes ≡ pass_count containers (take count flows) tags.old }
-    ensures gain { result.gain ≡ pairs_added containers (take count flows) tags.old }
+// Carries the tags of the first `containers` sets along the flows. It answers for any numbers and words: sets that the words do not have, and those past
+// the 256th, are left out, and so is a flow with such an end.
+pub fn propagate(tags: &mut [u64], containers: u32, flows: &[Flow]) -> Propagated
+    ensures sets { tags.new ≡ sets_after containers flows.now tags.old }
+    ensures passes { result.passes ≡ pass_count containers flows.now tags.old }
+    ensures gain { result.gain ≡ pairs_added containers flows.now tags.old }
 {
-    let sets = tags.len() / 4;
-    let most = if sets < 256 { sets as u32 } else { 256 };
-    let n = if containers < most { containers } else { most };
-    let last = if count < 512 { count } else { 512 };
-    make_passes(tags, n, flows, last)
+    let sets = (tags.len() / 4).min(256) as u32;
+    make_passes(tags, containers.min(sets), flows)
 }
 
 // Passes over the flows, up to the first that adds nothing. Within a pass each flow reads the sets as the pass found them: a copy, in which the sets that
 // a pass changed are copied again after it.
-fn make_passes(tags: &mut [u64], n: u32, flows: [Flow; 512], count: u32) -> Propagated
-    requires { (n ≤ 256) × (4 * n ≤ length tags.old) × (count ≤ 512) }
-    ensures sets { tags.new ≡ passed (passes_of n (edges_of (take count flows)) tags.old) n (edges_of (take count flows)) tags.old }
-    ensures passes { result.passes ≡ passes_of n (edges_of (take count flows)) tags.old }
-    ensures gain { result.gain ≡ new_in_passes (passes_of n (edges_of (take count flows)) tags.old) n (edges_of (take count flows)) tags.old }
+fn make_passes(tags: &mut [u64], n: u32, flows: &[Flow]) -> Propagated
+    requires { (n ≤ 256) × (4 * n ≤ length tags.old) }
+    ensures sets { tags.new ≡ passed (passes_of n (edges_of flows.now) tags.old) n (edges_of flows.now) tags.old }
+    ensures passes { result.passes ≡ passes_of n (edges_of flows.now) tags.old }
+    ensures gain { result.gain ≡ new_in_passes (passes_of n (edges_of flows.now) tags.old) n (edges_of flows.now) tags.old }
 {
     let mut found = [0u64; 1024];
     copy_sets(tags, &mut found, n);

@@ -11,15 +11,16 @@ ghost use Rattle.state.specs.State.{storage_of, state_of, no_flow};
 ghost use Rattle.tallytext.specs.Text.{space, newline, spaced, tags_rising, line_of, lines_of, last_line, report_of, left_of, tally_of};
 ghost use Rattle.report.specs.Put.{Put};
 
-use leb128::Encoded;
 use model::Flow;
+use refusal::Refusal;
+use replay::{Replayed, Stop};
 use state::Header;
 use tagset::TagSet;
 
 // What a run of `tally` gives back: the length of its text or that the output is too short, the header and the flow table.
 #[derive(Clone, Copy)]
 pub struct Tallied {
-    pub reply: Encoded,
+    pub reply: Result<usize, Refusal>,
     pub header: Header,
     pub flows: [Flow; 512],
 }
@@ -37,27 +38,17 @@ pub fn tally(
     ensures output { out.new ≡ (tally_of bytes.now (storage_of tags.old policies.old counts.old (replicate 512 no_flow)) out.old).output }
     ensures state { state_of result.header tags.new policies.new counts.new result.flows ≡ left_of bytes.now (storage_of tags.old policies.old counts.old (replicate 512 no_flow)) }
 {
-    let none = [Flow::NONE; 512];
-    if 16384 < bytes.len() {
-        let reply = write_report(out, tags, 0, 10, 16384, 0, 0);
-        return Tallied {
-            reply: reply,
-            header: Header::NONE,
-            flows: none,
-        };
-    }
-    let run = replay::replay(bytes, tags, policies, counts, 512, none);
-    let made = run.replayed;
-    let header = made.header;
-    let after = run.flows;
-    let ending = made.ending;
-    let number = replay::ending_number(ending);
-    let n = header.containers;
-    let reply = write_report(out, tags, n, number, made.byte, made.events, made.gain);
+    let mut flows = [Flow::NONE; 512];
+    let run = if 16384 < bytes.len() {
+        Replayed::nothing(Refusal::ShortOutput, 16384)
+    } else {
+        replay::replay(bytes, tags, policies, counts, &mut flows)
+    };
+    let reply = write_report(out, tags, &run);
     Tallied {
-        reply: reply,
-        header: header,
-        flows: after,
+        reply,
+        header: run.header,
+        flows,
     }
 }
 

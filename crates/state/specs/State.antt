@@ -5,6 +5,7 @@ use Rattle.model.specs.Model.{flow}
 use Rattle.model.specs.Reach.{tabulate}
 use Rattle.tagset.specs.declared.TagSet.{TagSet}
 use Rattle.state.specs.declared.Header.{Header}
+use Rattle.state.specs.declared.Tracker.{Tracker}
 
 -- what is lent; in use are 4n words of tag sets, 16n words of policy sets (permitted sets), n counts of these, 512 records of flows (the rack)
 pub record Storage : Type 0 where
@@ -24,6 +25,10 @@ storage_of tags policies counts flows = record { tags = tags; policies = policie
 
 abbrev pub state_of : Header → List ℕ → List ℕ → List ℕ → List Flow → State
 state_of header tags policies counts flows = record { header = header; storage = storage_of tags policies counts flows }
+
+-- the state of a tracker that is asked
+abbrev pub state_in : Tracker → State
+state_in t = state_of t.header t.tags.now t.policies.now t.counts.now t.flows.now
 
 -- 9: 'n is 0 or above 256, or storage shorter than above', by the lengths of the four lists
 abbrev pub short_of : ℕ → ℕ → ℕ → ℕ → ℕ → Bool

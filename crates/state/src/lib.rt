@@ -1,8 +1,10 @@
-// The tracker's small numbers. What its lent storage holds, and when a state is valid, stands in specs/.
+// The tracker's small numbers, and a tracker as a question finds it. What its lent storage holds, and when a state is valid, stands in specs/.
 #![tactic(auto)]
 
+use model::Flow;
+
 #[repr(C)]
-#[derive(Clone, Copy)]
+#[derive(Clone, Copy, Debug, PartialEq, Eq)]
 pub struct Header {
     pub containers: u32,
     pub count: u32,
@@ -16,4 +18,14 @@ impl Header {
         count: 0,
         greatest: 0,
     };
+}
+
+// A tracker that is asked and not changed: its header and the four lent lists, each of any length and content.
+#[derive(Clone, Copy)]
+pub struct Tracker<'a> {
+    pub header: Header,
+    pub tags: &'a [u64],
+    pub policies: &'a [u64],
+    pub counts: &'a [u8],
+    pub flows: &'a [Flow],
 }

@@ -1,50 +1,36 @@
 // Whether a state can be used: storage long enough (refusal 9), content valid (refusal 12). Every other refusal comes after these two.
 #![tactic(auto)]
 
-ghost use Rattle.std.specs.Prelude.{◌≡◌, false, ◌&&◌, ◌+◌, ◌*◌, ◌≤◌, length, take};
+ghost use Rattle.std.specs.Prelude.{◌≡◌, false, ◌&&◌, ◌+◌, ◌*◌, ◌≤◌, length};
 ghost use Rattle.refusal.specs.Order.{first_of};
 ghost use Rattle.tagset.specs.Set.{subset_of};
-ghost use Rattle.state.specs.State.{short_of, state_of, set_at};
+ghost use Rattle.refusal.specs.Number.{refusal_of};
+ghost use Rattle.state.specs.State.{short_of, bad_size, state_in, set_at};
 ghost use Rattle.state.specs.Valid.{valid_of, state_order};
-ghost use Rattle.validity.specs.Judge.{judgement_of};
-ghost use Rattle.validity.specs.Scan.{policies_valid, containers_valid, flow_valid, flows_valid, records_zero};
+ghost use Rattle.validity.specs.Scan.{policies_valid, containers_valid, flow_valid, flows_valid};
 
 use model::Flow;
-use state::Header;
+use refusal::Refusal;
+use state::{Header, Tracker};
 use tagset::TagSet;
 
-// What is said of a state. BadSize is the paper's 9, InvalidState its 12, 'unsound book'.
-#[derive(Clone, Copy)]
-pub enum Judgement {
-    Usable,
-    BadSize,
-    InvalidState,
-}
-
-// Judges the state: first its lengths, then its content. The flow table is the first `lent` of these records.
-pub fn judge(
-    header: Header,
-    tags: &[u64],
-    policies: &[u64],
-    counts: &[u8],
-    lent: usize,
-    flows: [Flow; 512],
-) -> Judgement
-    ensures { judgement_of result ≡ first_of (state_order (state_of header tags.now policies.now counts.now (take lent flows))) 0 }
+// Judges the state: first its lengths, then its content.
+pub fn judge(t: &Tracker) -> Result<(), Refusal>
+    ensures { refusal_of result ≡ first_of (state_order (state_in t.now)) 0 }
 {
     if bad_size(
-        header.containers,
-        tags.len(),
-        policies.len(),
-        counts.len(),
-        lent,
+        t.header.containers,
+        t.tags.len(),
+        t.policies.len(),
+        t.counts.len(),
+        t.flows.len(),
     ) {
-        return Judgement::BadSize;
+        return Err(Refusal::BadSize);
     }
-    if is_valid(header, tags, policies, counts, flows) {
-        return Judgement::Usable;
+    if !is_valid(t) {
+        return Err(Refusal::InvalidState);
     }
-    Judgement::InvalidState
+    Ok(())
 }
 
 // Whether n is 0 or above 256, or the four lent lists, of these lengths, are too short for n containers.
@@ -56,26 +42,17 @@ pub fn bad_size(n: u32, tags: usize, policies: usize, counts: usize, flows: usiz
 }
 
 // Whether the state is valid. Each word, count and record is read once, and a tag set once more for each flow that begins or ends at it.
-fn is_valid(
-    header: Header,
-    tags: &[u64],
-    policies: &[u64],
-    counts: &[u8],
-    flows: [Flow; 512],
-) -> bool
-    requires { short_of header.containers (length tags.now) (length policies.now) (length counts.now) 512 ≡ false }
-    ensures { result ≡ valid_of (state_of header tags.now policies.now counts.now flows) }
+fn is_valid(t: &Tracker) -> bool
+    requires { bad_size t.now.header.containers (state_in t.now).storage ≡ false }
+    ensures { result ≡ valid_of (state_in t.now) }
 {
-    if 512 < header.count {
+    if 512 < t.header.count {
         return false;
     }
-    if !containers_valid(header.containers, tags, policies, counts) {
-        return false;
-    }
-    if !flows_valid(header, tags, flows) {
-        return false;
-    }
-    records_zero(flows, header.count)
+    let count = t.header.count as usize;
+    containers_valid(t.header.containers, t.tags, t.policies, t.counts)
+        && flows_valid(t.header, t.tags, &t.flows[..count])
+        && t.flows[count..512].iter().all(|flow| *flow == Flow::NONE)
 }
 
 // Whether each container has its own tag, no tag of n or more, and valid policy sets.
@@ -142,23 +119,16 @@ fn set_at(words: &[u64], k: usize) -> TagSet
 }
 
 // Whether the enabled flows' numbers rise from at least 1, and each flow is valid.
-fn flows_valid(header: Header, tags: &[u64], flows: [Flow; 512]) -> bool
-    requires { (header.count ≤ 512) × (4 * header.containers ≤ length tags.now) }
-    ensures { result ≡ flows_valid header tags.now 0 (take header.count flows) }
+fn flows_valid(header: Header, tags: &[u64], flows: &[Flow]) -> bool
+    requires { 4 * header.containers ≤ length tags.now }
+    ensures { result ≡ flows_valid header tags.now 0 flows.now }
 {
-    let count = header.count as usize;
     let mut last: u32 = 0;
-    let mut k: usize = 0;
-    while k < count {
-        let f = flows[k];
-        if f.number <= last {
+    for flow in flows {
+        if flow.number <= last || !flow_valid(header, tags, *flow) {
             return false;
         }
-        if !flow_valid(header, tags, f) {
-            return false;
-        }
-        last = f.number;
-        k += 1;
+        last = flow.number;
     }
     true
 }
@@ -182,20 +152,4 @@ fn flow_valid(header: Header, tags: &[u64], f: Flow) -> bool
     }
     let source = set_at(tags, f.from as usize);
     source.is_subset(set_at(tags, f.to as usize))
-}
-
-// Whether the records from `count` on are zero.
-fn records_zero(flows: [Flow; 512], count: u32) -> bool
-    requires { count ≤ 512 }
-    ensures { result ≡ records_zero count flows }
-{
-    let mut k = count as usize;
-    while k < 512 {
-        let f = flows[k];
-        if (f.number != 0) | (f.from != 0) | (f.to != 0) {
-            return false;
-        }
-        k += 1;
-    }
-    true
 }
