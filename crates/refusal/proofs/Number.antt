@@ -1,9 +1,9 @@
--- Laws of the refusals' numbers: they tell the refusals apart, and none is 0. Assumes nothing.
-use Rattle.std.specs.Prelude.{◌≡◌, refl, [], ◌∷◌, ℕ, pred, ◌<◌, get_or}
+-- Laws of the refusals' numbers: they tell the refusals apart, none is 0, and so they tell the answers apart. Assumes nothing.
+use Rattle.std.specs.Prelude.{◌≡◌, refl, [], ◌∷◌, ℕ, pred, ◌<◌, get_or, Result, Ok, Err}
 use Rattle.std.proofs.Common.{sym, ap, ◌∙◌, arith}
 use Rattle.refusal.specs.declared.Refusal.{Refusal}
 use Rattle.refusal.specs.declared.Refusal.TheVariants.{Truncated, Overlong, UnknownKind, NoSuchContainer, SelfFlow, StaleNumber, TableFull, NotEnabled, BadSize, ShortOutput, PolicyFull, InvalidState}
-use Rattle.refusal.specs.Number.{number_of}
+use Rattle.refusal.specs.Number.{number_of, refusal_of}
 
 -- the refusal of a number
 refusal_with : ℕ → Refusal
@@ -45,3 +45,10 @@ number-positive BadSize = omega arith
 number-positive ShortOutput = omega arith
 number-positive PolicyFull = omega arith
 number-positive InvalidState = omega arith
+
+-- two answers of one number that give nothing else are one
+pub refusal-injective : (q r : Result (Unit {0}) Refusal) → refusal_of q ≡ refusal_of r → q ≡ r
+refusal-injective (Ok u) (Ok v) e = refl
+refusal-injective (Ok u) (Err r) e = absurd (omega (arith, e, number-positive r))
+refusal-injective (Err q) (Ok v) e = absurd (omega (arith, e, number-positive q))
+refusal-injective (Err q) (Err r) e = ap Err (number-injective q r e)
