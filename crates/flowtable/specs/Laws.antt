@@ -1,22 +1,18 @@
--- The table of enabled flows: what one step of `find` and of `remove` does, that appending and removing a record are what the model says
--- of the enabled flows, and which places of a removal are to be stored. Assumes nothing.
-use Rattle.std.specs.Prelude.{◌≡◌, refl, Bool, true, false, cond, ◌≢◌, List, [], ◌∷◌, ◌++◌, ℕ, zero, suc, ◌+◌, ◌-◌, ◌≤◌, ◌<◌, min, eqb, ltb, leb, length, get_or, set, take, drop, replicate}
-use Rattle.std.proofs.Common.{sym, ap, ap₂, ◌∙◌, append_assoc, add-zero, not-suc-le-zero, le_of_suc-le-suc, add-one, arith, length-append, length-set, length-take, length-drop, drop_of_length-le, drop-cons, get_or-take, get_or-drop, get_or-append-add, take_all, take-take, take-suc-set, eq-eqb, ne_eqb, eqb-true, ltb-true, lt-ltb, le-ltb, le-leb, leb-false}
+-- The table of enabled flows: places and removals from record to record, that appending and removing a record are what the
+-- model says of the enabled flows, and that a removal among the first records is one among the table's. Assumes nothing.
+use Rattle.std.specs.Prelude.{◌≡◌, refl, Bool, true, false, cond, Some, None, ◌≢◌, List, [], ◌∷◌, ◌++◌, ℕ, zero, suc, ◌+◌, ◌-◌, ◌≤◌, ◌<◌, min, eqb, ltb, leb, length, get_or, set, take, drop, replicate}
+use Rattle.std.proofs.Common.{sym, ap, ap₂, ◌∙◌, append_assoc, add-zero, not-suc-le-zero, le_of_suc-le-suc, add-one, arith, length-append, length-set, length-take, length-drop, take-append-drop, drop_of_length-le, drop-cons, get_or-take, take_all, take-take, take-suc-set, eq-eqb, ne_eqb, eqb-true, ltb-true, lt-ltb, le-ltb, le-leb, leb-false}
 use Rattle.std.proofs.lemmas.Bool.{false≢true, lt-leb}
 use Rattle.std.proofs.Math.Logic.{by_cases}
 use Rattle.std.proofs.Math.Nat.{suc_inj}
 use Rattle.std.proofs.Math.Decide.{dec_lt}
 use Rattle.std.proofs.Math.Dec.{leb-suc-suc}
-use Rattle.std.proofs.Math.ListN.{get_or-append}
 use Rattle.std.proofs.lemmas.List.{set_split}
 use borrow.Table.Steps.{cases}
 use Rattle.model.specs.declared.Flow.{Flow}
 use Rattle.model.specs.Model.{is_enabled, keep, without}
 use Rattle.state.specs.State.{no_flow, with_flows}
 use Rattle.state.specs.IsValid.{Rising}
-use Rattle.flowslice.specs.Slice.{stored_in}
-use Rattle.flowslice.proofs.Laws.{stored_is}
-use Rattle.flowtable.specs.declared.Found.TheVariants.{At, Absent}
 use Rattle.flowtable.specs.FlowTable.{place_of, found_in, shifted, removed_at}
 
 -- A place
@@ -46,7 +42,7 @@ unfolding place_of
 place_end number k fs h = ap (place_of number) (drop_of_length-le fs h)
 
 -- a place is below the end exactly where a flow has the number
-place-enabled : (k : ℕ) (fs : List Flow) → is_enabled k fs ≡ ltb (place_of k fs) (length fs)
+pub place-enabled : (k : ℕ) (fs : List Flow) → is_enabled k fs ≡ ltb (place_of k fs) (length fs)
 unfolding place_of is_enabled
 place-enabled k [] = refl
 place-enabled k (f ∷ fs) =
@@ -55,28 +51,28 @@ place-enabled k (f ∷ fs) =
     (λ n. rw n (place-enabled k fs ∙ sym (leb-suc-suc (suc (place_of k fs)) (length fs))))
 
 -- a flow that is below the end is found, and at the end there is none
-pub found_at : (k at : ℕ) (fs : List Flow) → place_of k fs ≡ at → at < length fs → At at ≡ found_in k fs
+pub found_at : (k at : ℕ) (fs : List Flow) → place_of k fs ≡ at → at < length fs → Some at ≡ found_in k fs
 unfolding found_in
-found_at k at fs e h = let l : place_of k fs < length fs = omega (arith, e, h) in rw (place-enabled k fs, lt-ltb (place_of k fs) (length fs) l) (ap At (sym e))
+found_at k at fs e h = let l : place_of k fs < length fs = omega (arith, e, h) in rw (place-enabled k fs, lt-ltb (place_of k fs) (length fs) l) (ap Some (sym e))
 
-pub found_none : (k : ℕ) (fs : List Flow) → length fs ≤ place_of k fs → Absent ≡ found_in k fs
+pub found_none : (k : ℕ) (fs : List Flow) → length fs ≤ place_of k fs → None ≡ found_in k fs
 unfolding found_in
 found_none k fs h = rw (place-enabled k fs, le-ltb (place_of k fs) (length fs) h) refl
 
 -- and conversely
-pub found-absent : (k : ℕ) (fs : List Flow) → Absent ≡ found_in k fs → is_enabled k fs ≡ false
+pub found-absent : (k : ℕ) (fs : List Flow) → None ≡ found_in k fs → is_enabled k fs ≡ false
 unfolding found_in
 found-absent k fs = go (is_enabled k fs)
   where
-    go : (b : Bool) → Absent ≡ cond b (At (place_of k fs)) Absent → b ≡ false
+    go : (b : Bool) → None ≡ cond b (Some (place_of k fs)) None → b ≡ false
     go false e = refl
     go true e = cc
 
-pub found-place : (k : ℕ) {place : ℕ} (fs : List Flow) → At place ≡ found_in k fs → (is_enabled k fs ≡ true) × (place ≡ place_of k fs)
+pub found-place : (k : ℕ) {place : ℕ} (fs : List Flow) → Some place ≡ found_in k fs → (is_enabled k fs ≡ true) × (place ≡ place_of k fs)
 unfolding found_in
 found-place k {place} fs = go (is_enabled k fs)
   where
-    go : (b : Bool) → At place ≡ cond b (At (place_of k fs)) Absent → (b ≡ true) × (place ≡ place_of k fs)
+    go : (b : Bool) → Some place ≡ cond b (Some (place_of k fs)) None → (b ≡ true) × (place ≡ place_of k fs)
     go true e = (refl, cc)
     go false e = (cc, cc)
 
@@ -140,7 +136,7 @@ without-count k j fs r e =
     rw (without-one k j fs r e) (simp (length-append, length-take, length-drop) (omega (arith, place-below k fs e)))
 
 -- where there is such a place, that is what removing does
-removed-in : (place count : ℕ) (table : List Flow) → place < length (take count table) → removed_at place count table ≡ shifted place count table
+pub removed-in : (place count : ℕ) (table : List Flow) → place < length (take count table) → removed_at place count table ≡ shifted place count table
 unfolding removed_at
 removed-in place count table h = rw (lt-leb (length (take count table)) place h)
 
@@ -207,7 +203,7 @@ removed-within m place count table h =
     (λ l. let e : min m count ≡ m = omega (arith, l) in
     rw (e, take_all count table (omega (arith, h, l)), take_all m table h, drop_of_length-le table {i = count} (omega (arith, h, l)), drop_of_length-le table {i = m} h) refl)
 
--- A removal stored
+-- A removal among the first records
 
 -- the table stays as long
 pub removed-length : (place count : ℕ) (table : List Flow) → length (removed_at place count table) ≡ length table
@@ -217,41 +213,20 @@ removed-length place count table =
     (λ f. let h : place < length (take count table) = leb-false (length (take count table)) place f in
     rw f (simp (length-append, length-take, length-drop) (omega (arith, h, length-take count table))))
 
--- a record before the place, and one that is not in use, is as it was
-removed-before : (place count : ℕ) (table : List Flow) (i : ℕ) → i < place → get_or (removed_at place count table) i no_flow ≡ get_or table i no_flow
+-- and a removal among the first records is one among the table's
+pub removed-front : (place end : ℕ) (table : List Flow)
+    → removed_at place end (take end table) ++ drop end table ≡ removed_at place end table
 unfolding removed_at
-removed-before place count table i l =
-    cases (leb (length (take count table)) place) (λ t. rw t refl)
-    (λ f. let h : place < length (take count table) = leb-false (length (take count table)) place f in
-    rw f (get_or-append (take place table) (drop (suc place) (take count table) ++ (no_flow ∷ drop count table)) no_flow i (omega (arith, l, h, length-take count table, length-take place table))
-    ∙ get_or-take place table i no_flow l))
-
-removed-behind : (place count : ℕ) (table : List Flow) (i : ℕ) → count ≤ i → i < length table → get_or (removed_at place count table) i no_flow ≡ get_or table i no_flow
-unfolding removed_at
-removed-behind place count table i l g =
-    cases (leb (length (take count table)) place) (λ t. rw t refl)
-    (λ f. rw f (behind (leb-false (length (take count table)) place f)))
-  where
-    -- the records before those that are not in use
-    used : List Flow
-    used = take place table ++ (drop (suc place) (take count table) ++ (no_flow ∷ []))
-
-    split : shifted place count table ≡ used ++ drop count table
-    split = simp append_assoc
-
-    behind : place < length (take count table) → get_or (shifted place count table) i no_flow ≡ get_or table i no_flow
-    behind h =
-        let n : length used ≡ count = simp (length-append, length-take, length-drop) (omega (arith, h, l, g, length-take count table)) in
-        let j : length used + (i - count) ≡ i = omega (arith, n, l) in
-        let k : count + (i - count) ≡ i = omega (arith, l) in
-        ap (λ (fs : List Flow). get_or fs i no_flow) split ∙ ap (λ (x : ℕ). get_or (used ++ drop count table) x no_flow) (sym j)
-        ∙ get_or-append-add used (drop count table) (i - count) no_flow ∙ get_or-drop count table (i - count) no_flow ∙ ap (λ (x : ℕ). get_or table x no_flow) k
-
--- so where a record of 512 is removed, storing the records in use from its place on is enough
-pub stored-removed : (place count : ℕ) (table : List Flow) → length table ≡ 512
-    → stored_in place count (removed_at place count table) table ≡ removed_at place count table
-stored-removed place count table t =
-    stored_is place count (removed_at place count table) table (removed_at place count table) (removed-length place count table) (λ i l a b c. refl)
-    (λ i l n. by_cases (dec_lt i place) (λ h. sym (removed-before place count table i h))
-    (λ h. by_cases (dec_lt i count) (λ g. absurd (n (omega (arith, h)) g (omega (arith, l, t))))
-    (λ g. sym (removed-behind place count table i (omega (arith, g)) l))))
+removed-front place end table =
+    let used = take end table in
+    let same : take end used ≡ used = take-take end end table (omega arith) in
+    cases (leb (length used) place) (λ t. rw (same, t) (take-append-drop end table))
+    (λ f. let h : place < length used = leb-false (length used) place f in
+    rw (
+      same,
+      f,
+      take-take place end table (omega (arith, h, length-take end table)),
+      drop_of_length-le used {i = end} (omega (arith, length-take end table)),
+      append_assoc,
+      append_assoc,
+    ) refl)

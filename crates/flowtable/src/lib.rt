@@ -1,4 +1,4 @@
-// The table of enabled flows, in place: find, append, remove. Every function answers for any length, count, place and content.
+// The table of enabled flows, in place: find, append, remove. Every function answers for any length, place and content.
 #![tactic(auto)]
 
 ghost use Rattle.std.specs.Prelude.{◌≡◌, length, set};

@@ -1,45 +1,24 @@
--- The place is k more than the place among the flows from k on. The measure is what is left to 512. Assumes nothing.
-use mathlib.Core.Path.{◌≡◌}
-use Prim.Native.Nat.{◌≤◌, min}
-use native.Mathlib.Omega.{arith}
-use lib.ListN.{take, length-take}
-use borrow.Author.Tests.{ltb-true, ltb-false}
-use Rattle.flowtable.specs.declared.Found.TheVariants.{Absent}
-use Rattle.flowtable.specs.FlowTable.{found_in}
-use Rattle.flowtable.specs.Laws.{place_here, place_after, place_end, found_at, found_none}
+-- `position` gives the first place whose flow has the number (`place_of`), where one has it (`place-enabled`). Assumes nothing.
+use Rattle.std.proofs.Common.{rules, tests, ◌≡◌, refl, ap, ◌∙◌, List, ℕ, eqb, cond, arith}
+use Rattle.std.specs.List.{position}
+use Rattle.std.proofs.lemmas.Iterator.{YieldsList-from_slice}
+use Rattle.std.proofs.lemmas.Iterator.Search.{position_from_yields_List}
+use Rattle.std.proofs.lemmas.List.Recursion.{is_position_or_len}
+use Rattle.model.specs.declared.Flow.{Flow}
+use Rattle.flowtable.specs.FlowTable.{place_of, found_in}
+use Rattle.flowtable.specs.Laws.{place-enabled}
 use Rattle.flowtable.proofs.find.Goals as goal
-use Rattle.flowtable.proofs.find.Goals.{At-loop-k}
 
--- past the last of the flows there is none
-at-end : (c : At-loop-k) → min c.args.count 512 ≤ c.loop-k.k
-    → Absent ≡ found_in c.args.number (take c.args.count c.args.flows)
-at-end c h =
-    let a = c.args in
-    found_none a.number (take a.count a.flows)
-    (omega (arith, length-take a.count a.flows, place_end a.number c.loop-k.k (take a.count a.flows) (omega (arith, length-take a.count a.flows))))
+found-position : (number : ℕ) (fs : List Flow) → position (λ f. eqb f.number number) fs ≡ found_in number fs
+unfolding place_of found_in
+found-position number fs =
+    let test = λ (f : Flow). eqb f.number number in
+    let first = is_position_or_len (place_of number) test refl (λ f gs. ap (cond (test f) 0) (omega arith)) fs in
+    rw (place-enabled number fs, first) refl
 
-pub returns-then-f-number : goal.returns-then-f-number
-returns-then-f-number c =
-    let a = c.args in
-    found_at a.number c.loop-k.k (take a.count a.flows)
-    (omega (arith, place_here a.number a.count c.loop-k.k a.flows (omega arith) (omega (arith, ltb-true)) c.if-f-number.true))
-    (omega (arith, ltb-true, length-take a.count a.flows))
-
-pub loop-k-smaller : goal.loop-k-smaller
-loop-k-smaller c =
-    omega (arith, ltb-true)
-
-pub loop-k-preserved : goal.loop-k-preserved
-loop-k-preserved c =
-    let a = c.args in (
-      omega (arith, ltb-true),
-      omega (arith, place_after a.number a.count c.loop-k.k a.flows (omega arith) (omega (arith, ltb-true)) c.if-f-number.false),
-    )
-
-pub returns-else-k-lt512 : goal.returns-else-k-lt512
-returns-else-k-lt512 c =
-    at-end (goal.at.returns-else-k-lt512 c).At-loop-k (omega (arith, ltb-false))
-
-pub returns-after-loop-k : goal.returns-after-loop-k
-returns-after-loop-k c =
-    at-end (goal.at.returns-after-loop-k c).At-loop-k (omega arith)
+pub returns : goal.returns
+returns c =
+    let flows = c.args.flows.now in
+    position_from_yields_List _ _ _ _ c.position.ensures.ran (YieldsList-from_slice flows cc)
+    (λ x b q k. search (rules, tests))
+    ∙ found-position c.args.number flows
