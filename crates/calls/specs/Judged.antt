@@ -1,81 +1,80 @@
 -- What a call comes to once the storage is judged: the refusal 9 or 12, or the work. Assumes nothing.
-use Rattle.std.specs.Prelude.{◌≡◌, Bool, true, ℕ, suc, ◌*◌, ◌/◌, ◌≤◌, min, length}
-use Rattle.std.proofs.Math.Path.{refl}
-use Rattle.std.proofs.Common.{sym, ◌∙◌, arith}
-use Rattle.std.proofs.Math.Bool.{false}
-use mathlib.Core.List.{List, []}
-use Rattle.std.proofs.Math.ListN.{take, drop, replicate, length-take, drop_of_length-le}
-use Rattle.std.proofs.Math.Seq.{take_all}
+use Rattle.std.specs.Prelude.{◌≡◌, refl, Bool, true, false, List, ◌++◌, Ok, ℕ, zero, suc, ◌-◌, ◌*◌, ◌/◌, min, length}
+use Rattle.std.proofs.Common.{sym, ap, ◌∙◌, arith}
+use Rattle.refusal.specs.declared.Refusal.{Refusal}
+use Rattle.refusal.specs.declared.Refusal.TheVariants.{BadSize}
+use Rattle.refusal.specs.Number.{number_of}
+use Rattle.refusal.proofs.Number.{number-positive}
 use Rattle.refusal.specs.Order.{first_of}
 use Rattle.model.specs.declared.Flow.{Flow}
 use Rattle.tagset.specs.declared.TagSet.{TagSet}
 use Rattle.tagset.specs.Set.{single_of}
-use Rattle.state.specs.State.{Storage, State, short_of, bad_size, storage_of, with_sets, no_flow, with_flows}
+use Rattle.state.specs.State.{Storage, State, bad_size, storage_of, with_sets, no_flow, with_flows}
 use Rattle.state.specs.Valid.{state_order}
 use Rattle.state.specs.IsValid.{IsSized}
 use Rattle.state.proofs.IsValid.{sized}
 use Rattle.state.proofs.Judging.{judged-first}
-use Rattle.validity.specs.Lent.{lent-short}
-use Rattle.tagstore.specs.Store.{zero_front}
-use Rattle.tagstore.specs.Starting.{zero-front, own-all}
-use Rattle.calls.specs.Replies.{refused, given_back, left_by}
+use Rattle.tagstore.specs.Store.{filled_front}
+use Rattle.tagstore.specs.Starting.{filled-front, own-all}
+use Rattle.calls.specs.Replies.{refused, left_by}
 use Rattle.outcome.specs.Outcome.{Outcome, decided, no_header, started, start_order, start_of, enable_later, enable_order, enable_of, disable_later, disable_order, disable_of, add_later, add_order, add_of}
-use Rattle.calls.specs.declared.Reply.TheVariants.{Accepted}
 
 -- EVENTS
 
 -- the outcome of a refusal: the state is left
-abbrev pub refused_in : State → ℕ → Outcome
-refused_in s k = record { answer = refused k; state = s }
+abbrev pub refused_in : State → Refusal → Outcome
+refused_in s r = record { answer = refused (number_of r); state = s }
 
-pub refuses : (r k : ℕ) (s : State) (gain : ℕ) (s' : State) → r ≡ suc k → decided r s gain s' ≡ refused_in s (suc k)
+pub refuses : (k : ℕ) (r : Refusal) (s : State) (gain : ℕ) (s' : State) → k ≡ number_of r
+    → decided k s gain s' ≡ refused_in s r
 unfolding decided
-refuses r k s gain s' e = rw e refl
+refuses zero r s gain s' e = absurd (omega (arith, e, number-positive r))
+refuses (suc k) r s gain s' e = ap (λ (k : ℕ). record { answer = refused k; state = s }) e
 
-module _ (s : State) where
-  -- a refusal of the state is answered by every call, and leaves the state
-  pub enable-judged : (f : Flow) (k : ℕ) → first_of (state_order s) 0 ≡ suc k → enable_of s f ≡ refused_in s (suc k)
+module _ (s : State) (r : Refusal) (e : number_of r ≡ first_of (state_order s) 0) where
+  -- a refusal of the state comes first in every order
+  judged : (rest : List (Bool × ℕ)) (gain : ℕ) (s' : State)
+      → decided (first_of (state_order s ++ rest) 0) s gain s' ≡ refused_in s r
+  judged rest gain s' =
+      let k : suc (number_of r - 1) ≡ number_of r = omega (arith, number-positive r) in
+      refuses (first_of (state_order s ++ rest) 0) r s gain s'
+      (judged-first s (number_of r - 1) rest (sym e ∙ sym k) ∙ k)
+
+  -- so every call answers it, and leaves the state
+  pub enable-judged : (f : Flow) → refused_in s r ≡ enable_of s f
   unfolding enable_of enable_order
-  enable-judged f k e = refuses (first_of (enable_order s f) 0) k s _ _ (judged-first s k (enable_later s f) e)
+  enable-judged f = sym (judged (enable_later s f) _ _)
 
-  pub disable-judged : (number k : ℕ) → first_of (state_order s) 0 ≡ suc k → disable_of s number ≡ refused_in s (suc k)
+  pub disable-judged : (number : ℕ) → refused_in s r ≡ disable_of s number
   unfolding disable_of disable_order
-  disable-judged number k e = refuses (first_of (disable_order s number) 0) k s _ _ (judged-first s k (disable_later s number) e)
+  disable-judged number = sym (judged (disable_later s number) _ _)
 
-  pub add-judged : (c : ℕ) (p : TagSet) (k : ℕ) → first_of (state_order s) 0 ≡ suc k → add_of s c p ≡ refused_in s (suc k)
+  pub add-judged : (c : ℕ) (p : TagSet) → refused_in s r ≡ add_of s c p
   unfolding add_of add_order
-  add-judged c p k e = refuses (first_of (add_order s c p) 0) k s _ _ (judged-first s k (add_later s c p) e)
+  add-judged c p = sym (judged (add_later s c p) _ _)
 
 -- STARTING
 
-module _ (n : ℕ) (tags policies counts : List ℕ) (m : ℕ) (flows : List Flow) (long : length flows ≡ 512) where
+module _ (n : ℕ) (tags policies counts : List ℕ) (flows : List Flow) where
   abbrev lent : Storage
-  lent = storage_of tags policies counts (take m flows)
-
-  -- the lengths decide
-  short : {b : Bool} → b ≡ short_of n (length tags) (length policies) (length counts) m → bad_size n lent ≡ b
-  short e = lent-short m flows long n tags policies counts ∙ sym e
+  lent = storage_of tags policies counts flows
 
   -- a start with a bad size is refused
-  pub start-judged : {b : Bool} → b ≡ short_of n (length tags) (length policies) (length counts) m → b ≡ true
-      → start_of n lent ≡ refused_in (record { header = no_header; storage = lent }) 9
+  pub start-judged : bad_size n lent ≡ true → refused_in (record { header = no_header; storage = lent }) BadSize ≡ start_of n lent
   unfolding start_of start_order decided
-  start-judged e t = rw (short e ∙ t) refl
+  start-judged e = rw e refl
 
-  -- in any other the table that was lent has 512 records
-  pub start-records : {b : Bool} → b ≡ short_of n (length tags) (length policies) (length counts) m → b ≡ false → 512 ≤ length (take m flows)
-  start-records e f = ((sized n lent).0 (short e ∙ f)).records
-
-  -- and it leaves each container its own tag, zeros in the places of policy sets, and a table of zeros
-  pub start-done : {b : Bool} → b ≡ short_of n (length tags) (length policies) (length counts) m → b ≡ false
-      → {tags' policies' counts' : List ℕ} → tags' ≡ with_sets (min n (length tags / 4)) single_of tags
-      → policies' ≡ zero_front (16 * n) policies → counts' ≡ zero_front n counts
-      → left_by (given_back (Accepted 0) (record { containers = n; count = 0; greatest = 0 })) tags' policies' counts' (take m (replicate 512 no_flow)) ≡ start_of n lent
+  -- any other leaves each container its own tag, zeros in the places of policy sets, and 512 records of zeros
+  pub start-done : bad_size n lent ≡ false → {tags' policies' counts' : List ℕ} {flows' : List Flow}
+      → tags' ≡ with_sets (min n (length tags / 4)) single_of tags → policies' ≡ filled_front 0 (16 * n) policies
+      → counts' ≡ filled_front 0 n counts → flows' ≡ filled_front no_flow 512 flows
+      → left_by (Ok (record { header = record { containers = n; count = 0; greatest = 0 }; gain = 0 }))
+      no_header tags' policies' counts' flows'
+      ≡ start_of n lent
   unfolding start_of start_order decided started with_flows
-  start-done e f p q r =
-      let fine : bad_size n lent ≡ false = short e ∙ f in
+  start-done fine p q r t =
       let z : IsSized n lent = (sized n lent).0 fine in
-      let l : 512 ≤ m = omega (arith, z.records, length-take m flows) in
-      let none : drop 512 (take m flows) ≡ [] = drop_of_length-le (take m flows) {i = 512} (omega (arith, long, length-take m flows)) in
-      let all : take m (replicate 512 no_flow) ≡ replicate 512 no_flow = take_all m (replicate 512 no_flow) l in
-      rw (all, fine, p ∙ own-all n tags z.tag-words, q ∙ zero-front (16 * n) policies z.policy-words, r ∙ zero-front n counts z.count-bytes, none) refl
+      let own = p ∙ own-all n tags z.tag-words in
+      let policies-zero = q ∙ filled-front 0 (16 * n) policies z.policy-words in
+      let counts-zero = r ∙ filled-front 0 n counts z.count-bytes in
+      rw (fine, own, policies-zero, counts-zero, t ∙ filled-front no_flow 512 flows z.records) refl

@@ -113,6 +113,7 @@ pub fn add_policy(
 }
 
 // Enables a flow without judging the state: on a usable state (law `apply-enable`) as `enable` does. The policy sets are not looked at.
+#[tactic(auto, using(std::proofs::lemmas::Bool::Decides::nat_tests), unfolding(crate::specs::Unjudged::apply_enable_of, outcome::specs::Outcome::enable_later, outcome::specs::Outcome::decided, crate::specs::Unjudged::appended_to, crate::specs::Unjudged::carrying))]
 pub fn apply_enable(
     header: Header,
     tags: &mut [u64],
@@ -151,9 +152,9 @@ pub fn apply_enable(
 pub fn apply_disable(header: Header, flows: &mut [Flow], number: u32) -> Result<Accepted, Refusal>
     ensures { (tags policies counts : List ℕ) → left_by result header tags policies counts flows.new ≡ apply_disable_of (state_of header tags policies counts flows.old) number }
 {
-    let end = flows.len().min(header.count.min(512) as usize);
-    let place = flowtable::find(&flows[..end], number).ok_or(Refusal::NotEnabled)?;
-    flowtable::remove(&mut flows[..end], place);
+    let used = flows.len().min(header.count as usize);
+    let place = flowtable::find(&flows[..used], number).ok_or(Refusal::NotEnabled)?;
+    flowtable::remove(&mut flows[..used.min(512)], place);
     Ok(Accepted {
         header: Header {
             count: header.count - 1,
@@ -164,6 +165,7 @@ pub fn apply_disable(header: Header, flows: &mut [Flow], number: u32) -> Result<
 }
 
 // Adds a policy set in storage that is long enough, without judging the state.
+#[tactic(auto, using(std::proofs::lemmas::Bool::Decides::nat_tests), unfolding(crate::specs::Unjudged::apply_add_of, outcome::specs::Outcome::add_later, outcome::specs::Outcome::decided, outcome::specs::Outcome::adding))]
 fn apply_add(
     header: Header,
     policies: &mut [u64],

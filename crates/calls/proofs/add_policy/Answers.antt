@@ -1,6 +1,5 @@
 -- What is judged decides between 9, 12 and `apply_add`, which on a usable state has the same outcome. Assumes nothing.
-use mathlib.Core.Path.{sym, ◌∙◌}
-use lib.ListN.{take}
+use Rattle.std.proofs.Common.{rules, ◌≡◌, sym, ◌∙◌, Err}
 use Rattle.state.specs.State.{State, state_of}
 use Rattle.state.proofs.Judging.{judged-usable}
 use Rattle.calls.specs.UnjudgedLaws.{apply-add}
@@ -10,27 +9,22 @@ use Rattle.calls.proofs.add_policy.Goals.{Start}
 
 -- the state that the call is given
 abbrev at : Start → State
-at c = state_of c.args.header c.args.tags.now c.args.policies.now c.args.counts.now (take c.args.lent c.args.flows)
+at c = state_of c.args.header c.args.tags.now c.args.policies.now c.args.counts.now c.args.flows.now
+
+pub returns-in_err-judge : goal.returns-in_err-judge
+returns-in_err-judge c =
+    let s = at (goal.at.returns-in_err-judge c).Start in
+    let e : c.from_residual.result ≡ Err c.in_err-judge.field-0.0 = search rules in
+    rw e (add-judged s c.in_err-judge.field-0.0 c.in_err-judge.ensures c.args.container c.args.policy)
+
+pub returns : goal.returns
+returns c =
+    let s = at (goal.at.returns c).Start in
+    c.apply_add.ensures c.args.tags.now c.args.flows.now
+    ∙ apply-add s (judged-usable s (sym c.in_ok-judge.ensures)) c.args.container c.args.policy
 
 pub apply_add-requires : goal.apply_add-requires
 apply_add-requires c =
     let s = at (goal.at.apply_add-requires c).Start in
-    let u = judged-usable s (sym c.in-Usable.ensures) in
+    let u = judged-usable s (sym c.in_ok-judge.ensures) in
     (u.sized.most, u.sized.policy-words, u.sized.count-bytes)
-
-pub returns-in-BadSize : goal.returns-in-BadSize
-returns-in-BadSize c =
-    let s = at (goal.at.returns-in-BadSize c).Start in
-    sym (add-judged s c.args.container c.args.policy 8 (sym c.in-BadSize.ensures))
-
-pub returns-in-InvalidState : goal.returns-in-InvalidState
-returns-in-InvalidState c =
-    let s = at (goal.at.returns-in-InvalidState c).Start in
-    sym (add-judged s c.args.container c.args.policy 11 (sym c.in-InvalidState.ensures))
-
-pub returns-in-Usable : goal.returns-in-Usable
-returns-in-Usable c =
-    let s = at (goal.at.returns-in-Usable c).Start in
-    c.apply_add.ensures c.args.tags.now (take c.args.lent c.args.flows)
-    ∙ apply-add s (judged-usable s (sym c.in-Usable.ensures)) c.args.container
-    c.args.policy

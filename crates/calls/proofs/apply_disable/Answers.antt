@@ -1,53 +1,59 @@
 -- A flow that is not found is refused; one that is found is removed from its place. Assumes nothing.
-use mathlib.Core.Path.{◌≡◌, refl, sym, ap, ◌∙◌}
-use mathlib.Core.List.{List, []}
-use Prim.Native.Nat.{ℕ}
-use native.Mathlib.Omega.{arith}
-use lib.ListN.{length, take}
-use borrow.Author.Rules.{rules}
-use Rattle.state.specs.State.{State, state_of, flows_of}
-use Rattle.flowtable.specs.FlowTable.{place_of}
-use Rattle.flowtable.specs.Laws.{found-place}
-use Rattle.calls.specs.Stored.{refused-stored, refused-places, accepted-places, disable-stored}
-use Rattle.calls.specs.UnjudgedBranches.{left-refused, not-enabled, some-enabled, disables}
+use Rattle.std.proofs.Common.{rules, ◌≡◌, ◌≤◌, refl, List, [], ℕ, zero, suc, min, Option, None, Some, Err, take, drop, length, length-take, ◌++◌, arith, sym, ap, ◌∙◌}
+use Rattle.std.proofs.lemmas.Bool.{false≢true}
+use Rattle.std.proofs.lemmas.List.{take_min}
+use Rattle.refusal.specs.declared.Refusal.TheVariants.{NotEnabled}
+use Rattle.model.specs.declared.Flow.{Flow}
+use Rattle.model.specs.Model.{is_enabled}
+use Rattle.state.specs.State.{flows_of}
+use Rattle.flowtable.specs.FlowTable.{found_in, removed_at}
+use Rattle.flowtable.specs.Laws.{found-absent, found-place, removed-front, removed-within}
+use Rattle.outcome.specs.Outcome.{disable_later, decided}
+use Rattle.calls.specs.Unjudged.{apply_disable_of}
 use Rattle.calls.proofs.apply_disable.Goals as goal
-use Rattle.calls.proofs.apply_disable.Goals.{Start}
 
--- the state that the call is given, for any tag sets and policy sets
-abbrev at : Start → List ℕ → List ℕ → List ℕ → State
-at c tags policies counts = state_of c.args.header tags policies counts c.args.flows
+-- what is found among the records in use, of which the table may have fewer than are counted
+found : {r : Option ℕ} (k count used : ℕ) (table : List Flow) → used ≡ min count (length table)
+    → r ≡ found_in k (take used table) → r ≡ found_in k (take count table)
+found k count used table u e = e ∙ ap (found_in k) (ap (λ (n : ℕ). take n table) u ∙ take_min count table)
 
--- the table has 512 records
-long : (c : Start) → length c.args.flows ≡ 512
-long c = search rules
+-- where one is found, some flow is enabled
+some-enabled : (k place count : ℕ) (table : List Flow) → Some place ≡ found_in k (take count table) → 1 ≤ count
+some-enabled k place zero table e = unfold is_enabled in absurd (false≢true (found-place k [] e).0)
+some-enabled k place (suc count) table e = omega arith
 
-pub returns-in_default : goal.returns-in_default
-unfolding flows_of
-returns-in_default c =
-    let s = at (goal.at.returns-in_default c).Start in
-    record {
-      left = λ tags policies counts.
-          left-refused (s tags policies counts) (λ fs. fs) refl c.refused.ensures
-          (not-enabled (s tags policies counts) c.args.number (sym c.in_default.is ∙ c.find-found.ensures));
-      stored = refused-stored c.args.flows c.refused.ensures;
-      places = refused-places (place_of c.args.number (take c.args.header.count c.args.flows)) c.args.header.count c.refused.ensures (λ z. omega (arith, z));
-    }
+-- and it is removed from the table by its removal from the records in use that are among the first 512
+removed : {fs : List Flow} (place count end : ℕ) (table : List Flow) → end ≡ min (length table) (min 512 count)
+    → fs ≡ removed_at place (length (take end table)) (take end table)
+    → fs ++ drop end table ≡ removed_at place (min 512 count) table
+removed place count end table n e =
+    let l : length (take end table) ≡ end = omega (arith, length-take end table) in
+    rw (e, l)
+    (removed-front place end table ∙ ap (λ (m : ℕ). removed_at place m table) n
+    ∙ sym (removed-within (length table) place (min 512 count) table (omega arith)))
 
-pub overflow_sub-count : goal.overflow_sub-count
-unfolding flows_of
-overflow_sub-count c =
-    let s = at (goal.at.overflow_sub-count c).Start in
-    some-enabled (s [] [] []) c.args.number (sym c.in-At.is ∙ c.find-found.ensures)
+pub returns-in_err-place : goal.returns-in_err-place
+unfolding apply_disable_of disable_later decided flows_of
+returns-in_err-place c =
+    let a = c.args in
+    let e : c.from_residual.result ≡ Err c.in_err-place.field-0.0 = search rules in
+    let n : (c.find.result ≡ None) × (c.in_err-place.field-0.0 ≡ NotEnabled) = search rules in
+    let f = sym n.0 ∙ found a.number a.header.count c.min-used.result a.flows.now (omega arith) c.find.ensures in
+    λ tags policies counts. rw (e, n.1, found-absent a.number (take a.header.count a.flows.now) f) refl
+
+pub overflow_sub-result : goal.overflow_sub-result
+overflow_sub-result c =
+    let a = c.args in
+    let e : c.find.result ≡ Some c.in_ok-place.place = search rules in
+    let f = sym e ∙ found a.number a.header.count c.min-used.result a.flows.now (omega arith) c.find.ensures in
+    some-enabled a.number c.in_ok-place.place a.header.count a.flows.now f
 
 pub returns : goal.returns
-unfolding flows_of
+unfolding apply_disable_of disable_later decided flows_of
 returns c =
-    let s = at (goal.at.returns c).Start in
-    let l = long (goal.at.returns c).Start in
-    let told = sym c.in-At.is ∙ c.find-found.ensures in
-    record {
-      left = λ tags policies counts. disables (s tags policies counts) c.args.number l told c.remove.ensures;
-      stored = disable-stored c.args.flows l _ c.args.header.count c.remove.ensures;
-      places = ap (λ (p : ℕ). (p, c.args.header.count)) (found-place c.args.number (take c.args.header.count c.args.flows) told).1
-          ∙ accepted-places 0 _ (place_of c.args.number (take c.args.header.count c.args.flows)) c.args.header.count;
-    }
+    let a = c.args in
+    let e : c.find.result ≡ Some c.in_ok-place.place = search rules in
+    let f = sym e ∙ found a.number a.header.count c.min-used.result a.flows.now (omega arith) c.find.ensures in
+    let p = found-place a.number (take a.header.count a.flows.now) f in
+    let t = removed c.in_ok-place.place a.header.count c.min.result a.flows.now (omega arith) c.remove.ensures in
+    λ tags policies counts. rw (p.0, t, p.1) refl
