@@ -1,5 +1,4 @@
 pub mod Ranking
-pub mod Replies
 pub mod Sorted
 pub mod Laws
 pub mod Turns
