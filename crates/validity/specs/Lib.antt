@@ -1,4 +1,2 @@
-pub mod Judge
-pub mod Lent
 pub mod Scan
 pub mod Scanned

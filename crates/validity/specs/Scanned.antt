@@ -1,15 +1,18 @@
 -- A state of the right lengths is valid exactly where the clauses pass in the order in which the storage is read. Assumes nothing.
-use Rattle.std.specs.Prelude.{◌≡◌, refl, Bool, true, false, ◌&&◌, not, cond, List, [], ◌∷◌, ◌↔◌, ℕ, ◌+◌, ◌*◌, ◌/◌, ◌%◌, ◌≤◌, ◌<◌, leb, ltb, get_or}
-use Rattle.std.proofs.Common.{sym, ap, ◌∙◌, subst, ⊎_elim, add-zero, arith, ltb-true, ltb-false}
+use Rattle.std.specs.Prelude.{◌≡◌, refl, Bool, true, ◌&&◌, not, cond, List, [], ◌∷◌, ◌↔◌, ℕ, ◌+◌, ◌*◌, ◌/◌, ◌%◌, ◌≤◌, ◌<◌, leb, ltb, get_or}
+use Rattle.std.proofs.Common.{sym, ap, ◌∙◌, subst, ⊎_elim, arith, ltb-true, ltb-false}
 use Rattle.std.proofs.lemmas.Bool.{false≢true, not-false}
+use Rattle.std.specs.List.{list_all, range_with_len}
+use Rattle.std.proofs.lemmas.List.FromFn.{length-range_with_len, get_or-range_with_len}
+use Rattle.std.proofs.lemmas.List.Recursion.{and_at, and_from_places}
 use mathlib.Core.List.Memᴰ
 use borrow.Table.Steps.{cases}
-use Rattle.truth.specs.Truth.{iff, and_both, both-and, and-iff, not_iff, le_iff, lt_iff, ne_iff}
+use Rattle.truth.specs.Truth.{iff, and-iff, not_iff, le_iff, lt_iff, ne_iff}
 use Rattle.model.specs.declared.Flow.{Flow}
 use Rattle.model.specs.Model.{◌∈◌}
 use Rattle.model.proofs.Standing.{edge_of, of-edge}
 use Rattle.tagset.specs.declared.TagSet.{TagSet}
-use Rattle.tagset.proofs.Below.{all-at}
+use Rattle.tagset.proofs.Below.{all-at, all-make}
 use Rattle.tagset.proofs.Laws.{empty-has, subset-of-has, subset-refl, subset-antisym, exceeds-below, not-exceeds, not-exceeds-of-has, empty-words}
 use Rattle.tagset.specs.Set.{has, empty_set, below_of, all_below, subset_of}
 use Rattle.tagset.proofs.Word.{each_word}
@@ -24,43 +27,18 @@ use Rattle.validity.specs.Scan.{policies_valid, containers_valid, flow_valid, fl
 
 -- Tests, each with what it says
 
--- four tests one by one
-four : (f : ℕ → Bool) → f 0 && f 1 && f 2 && f 3 ≡ all_below 4 f
-unfolding all_below
-four f =
-    iff (f 0 && f 1 && f 2 && f 3) (f 3 && (f 2 && (f 1 && (f 0 && true))))
-    (λ e.
-    let p = and_both (f 0 && f 1 && f 2) (f 3) e in
-    let q = and_both (f 0 && f 1) (f 2) p.0 in
-    let r = and_both (f 0) (f 1) q.0 in
-    both-and p.1 (both-and q.1 (both-and r.1 (both-and r.0 refl))))
-    (λ e.
-    let p = and_both (f 3) (f 2 && (f 1 && (f 0 && true))) e in
-    let q = and_both (f 2) (f 1 && (f 0 && true)) p.1 in
-    let r = and_both (f 1) (f 0 && true) q.1 in
-    both-and (both-and (both-and (and_both (f 0) true r.1).0 r.0) q.0) p.0)
+-- a test of each number of a range, where it says the same as another below n
+pub all-range : (n : ℕ) (p q : ℕ → Bool) → ((k : ℕ) → k < n → p k ≡ q k) → list_all p (range_with_len 0 n) ≡ all_below n q
+all-range n p q same =
+    iff (list_all p ns) (all_below n q)
+    (λ e. all-make n q (λ k l. sym (at k l) ∙ and_at (list_all p) p refl (λ x xs. refl) ns k 0 (omega (arith, l, length-range_with_len 0 n)) e))
+    (λ e. and_from_places (list_all p) p refl (λ x xs. refl) ns 0 (λ k l. let m : k < n = omega (arith, l, length-range_with_len 0 n) in at k m ∙ all-at n q e k m))
+  where
+    ns : List ℕ
+    ns = range_with_len 0 n
 
--- the places for policy sets, each compared with what it may hold where `m` are in use
-pub places-valid : (known : TagSet) (ps : List ℕ) (c : ℕ) {count : ℕ} (m : ℕ) {p q r s : TagSet} {b : Bool}
-    → b ≡ subset_of (set_at ps (4 * c)) p && subset_of (set_at ps (4 * c + 1)) q && subset_of (set_at ps (4 * c + 2)) r && subset_of (set_at ps (4 * c + 3)) s
-    → count ≡ m → leb m 4 ≡ true → p ≡ cond (ltb 0 m) known empty_set → q ≡ cond (ltb 1 m) known empty_set → r ≡ cond (ltb 2 m) known empty_set → s ≡ cond (ltb 3 m) known empty_set
-    → b ≡ policies_valid known ps c count
-unfolding policies_valid
-places-valid known ps c m told e most ep eq er es =
-    told
-    ∙ (λ i. subset_of (set_at ps (4 * c)) (ep i) && subset_of (set_at ps (4 * c + 1)) (eq i) && subset_of (set_at ps (4 * c + 2)) (er i) && subset_of (set_at ps (4 * c + 3)) (es i))
-    ∙ ap (λ (z : ℕ).
-    subset_of (set_at ps z) (cond (ltb 0 m) known empty_set)
-    && subset_of (set_at ps (4 * c + 1)) (cond (ltb 1 m) known empty_set)
-    && subset_of (set_at ps (4 * c + 2)) (cond (ltb 2 m) known empty_set)
-    && subset_of (set_at ps (4 * c + 3)) (cond (ltb 3 m) known empty_set)) (sym (add-zero (4 * c)))
-    ∙ four (λ k. subset_of (set_at ps (4 * c + k)) (cond (ltb k m) known empty_set))
-    ∙ ap (λ (b : Bool). b && all_below 4 (λ k. subset_of (set_at ps (4 * c + k)) (cond (ltb k m) known empty_set))) (sym most)
-    ∙ ap (λ (k : ℕ). policies_valid known ps c k) (sym e)
-
--- one below n fails, so not every one passes
-pub all-fails : (n : ℕ) (f : ℕ → Bool) (k : ℕ) → k < n → f k ≡ false → all_below n f ≡ false
-all-fails n f k l e = cases (all_below n f) (λ q. absurd (false≢true (sym e ∙ all-at n f q k l))) (λ q. q)
+    at : (k : ℕ) → k < n → p (get_or ns k 0) ≡ q k
+    at k l = let e : get_or ns k 0 ≡ k = get_or-range_with_len 0 n k 0 l ∙ omega arith in ap p e ∙ same k l
 
 -- every tag of a set is below n
 known-iff : (s : TagSet) (n : ℕ) → (subset_of s (below_of n) ≡ true) ↔ ((t : ℕ) → has s t ≡ true → t < n)

@@ -1,63 +1,51 @@
 -- `is_valid` meets its contract: the clauses in the order in which the storage is read are those of a valid state, and the first that fails decides.
 -- Assumes nothing.
-use mathlib.Core.Bool.{and-false}
-use mathlib.Core.Path.{◌≡◌}
-use native.Mathlib.Omega.{arith}
-use lib.ListN.{length}
-use borrow.Author.Rules.{rules}
-use borrow.Author.Tests.{le-leb, lt-leb}
-use Rattle.state.specs.IsValid.{IsSized}
-use Rattle.state.proofs.IsValid.{sized, bad-size-short}
-use Rattle.state.specs.Layout.{Fit64}
-use Rattle.state.specs.State.{State, state_of, flows_of}
-use Rattle.state.specs.Valid.{valid_of}
-use Rattle.validity.specs.Scanned.{scan_of, scanned}
+use Rattle.std.proofs.Common.{◌≡◌, ◌&&◌, ◌∙◌, refl, sym, ◌+◌, ◌-◌, arith, rules, tests, le-leb, drop, take, List}
+use Rattle.std.proofs.lemmas.Bool.{false≢true}
+use Rattle.std.specs.List.{list_all}
+use Rattle.std.proofs.lemmas.List.{drop-take}
+use Rattle.std.proofs.lemmas.Iterator.{YieldsList-from_slice}
+use Rattle.std.proofs.lemmas.Iterator.Search.{all_from_yields_List}
+use Rattle.std.proofs.lemmas.List.Recursion.{same_from_clauses}
+use borrow.Table.Steps.{cases}
+use Rattle.model.specs.declared.Flow.{Flow}
+use Rattle.state.specs.State.{state_in, flows_of}
+use Rattle.state.specs.Valid.{all_of, is_no_flow, valid_of}
+use Rattle.state.proofs.IsValid.{valid}
+use Rattle.validity.specs.Scanned.{scanned}
 use Rattle.validity.proofs.is_valid.Goals as goal
-use Rattle.validity.proofs.is_valid.Goals.{Start}
+use Rattle.validity.proofs.is_valid.Goals.{then-containers_valid, else-containers_valid}
 
--- the state that is judged
-abbrev judged : Start → State
-judged s = state_of s.args.header s.args.tags.now s.args.policies.now s.args.counts.now s.args.flows
+-- every record is zero
+zeros : (fs : List Flow) → list_all is_no_flow fs ≡ all_of is_no_flow fs
+unfolding all_of
+zeros fs = same_from_clauses (list_all is_no_flow) (all_of is_no_flow) (λ f b. is_no_flow f && b) refl (λ _ _. refl) (λ _ _. refl) fs
 
--- its lengths are right
-fits : (s : Start) → IsSized s.args.header.containers (judged s).storage
-fits s =
-    let e : length s.args.flows ≡ 512 = search rules in
-    (sized s.args.header.containers (judged s).storage).0 (simp (bad-size-short, e) s.requires)
+pub returns-then-t-gt512 : goal.returns-then-t-gt512
+returns-then-t-gt512 c =
+    let s = state_in c.args.t.now in
+    cases (valid_of s) (λ e. absurd (omega (arith, ((valid s).0 e).table-count))) (λ e. sym e)
 
--- so the order of reading decides
-read : (s : Start) → Fit64 s.args.policies.now → valid_of (judged s) ≡ scan_of (judged s)
-read s h = scanned (judged s) (fits s) h
-
-pub returns-then-header-gt512 : goal.returns-then-header-gt512
-returns-then-header-gt512 c =
-    simp (read (goal.at.returns-then-header-gt512 c).Start (search rules), lt-leb c.args.header.count 512 (omega arith))
-
-pub containers_valid-requires : goal.containers_valid-requires
-containers_valid-requires c =
-    let z = fits (goal.at.containers_valid-requires c).Start in omega arith
-
-pub returns-then-not-containers_valid : goal.returns-then-not-containers_valid
-returns-then-not-containers_valid c =
-    simp (read (goal.at.returns-then-not-containers_valid c).Start (search rules), ← c.containers_valid.ensures, c.if-not-containers_valid.true, and-false)
-
-pub flows_valid-requires : goal.flows_valid-requires
-flows_valid-requires c =
-    let z = fits (goal.at.flows_valid-requires c).Start in omega arith
-
-pub returns-then-not-flows_valid : goal.returns-then-not-flows_valid
+pub returns-then-flows_valid : goal.returns-then-flows_valid
 unfolding flows_of
-returns-then-not-flows_valid c =
-    simp (read (goal.at.returns-then-not-flows_valid c).Start (search rules), ← c.flows_valid.ensures, c.if-not-flows_valid.true, and-false)
+returns-then-flows_valid c =
+    let t = c.args.t.now in
+    let whole : t.header.count + (512 - t.header.count) ≡ 512 = omega arith in
+    let unused = rw whole at (drop-take t.header.count (512 - t.header.count) t.flows.now) in
+    let told =
+    all_from_yields_List is_no_flow _ _ _ c.all.ensures.ran (YieldsList-from_slice _ (c.iter.ensures.rest ∙ sym unused)) (λ x b q k. search (rules, tests))
+    ∙ zeros (drop t.header.count (take 512 t.flows.now)) in
+    elim c.if-containers_valid.branch [
+      | then-containers_valid w ↦
+          simp (
+            scanned (state_in t) c.requires c.containers_valid.ensures.words,
+            le-leb t.header.count 512 c.if-t-gt512.false,
+            sym c.containers_valid.ensures.valid ∙ w.if-containers_valid.true,
+            sym w.flows_valid.ensures ∙ sym w.value-is ∙ c.if-flows_valid.true,
+          ) told
+      | else-containers_valid w ↦ absurd (false≢true (sym w.if-containers_valid.false ∙ sym w.value-is ∙ c.if-flows_valid.true))
+    ]
 
-pub returns : goal.returns
+pub returns-else-flows_valid : goal.returns-else-flows_valid
 unfolding flows_of
-returns c =
-    simp (
-      read (goal.at.returns c).Start (search rules),
-      le-leb _ _ c.if-header-gt512.false,
-      ← c.containers_valid.ensures,
-      c.if-not-containers_valid.false,
-      ← c.flows_valid.ensures,
-      c.if-not-flows_valid.false,
-    ) c.records_zero.ensures
+returns-else-flows_valid c = grind (rules, tests, scanned (state_in c.args.t.now) c.requires c.containers_valid.ensures.words)

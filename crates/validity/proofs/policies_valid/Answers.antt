@@ -1,36 +1,27 @@
--- `policies_valid` meets its contract: each number of policy sets up to four has its row, and every other is refused. Assumes nothing.
-use mathlib.Core.Path.{refl}
-use native.Mathlib.Omega.{arith}
-use borrow.Author.Tests.{lt-leb}
+-- `policies_valid` meets its contract: it tests each of the four places, which the words have. Assumes nothing.
+use Rattle.std.proofs.Common.{◌∙◌, ◌+◌, ◌*◌, refl, arith, rules, tests, cond, ltb, ap, le-leb}
+use Rattle.std.proofs.lemmas.Bool.{lt-leb}
+use Rattle.std.proofs.lemmas.Iterator.{YieldsList-from_range}
+use Rattle.std.proofs.lemmas.Iterator.Search.{all_from_yields_List}
+use Rattle.tagset.specs.declared.TagSet.{TagSet}
+use Rattle.tagset.specs.Set.{empty_set, subset_of}
+use Rattle.tagstore.specs.Store.{load_of}
+use Rattle.tagstore.specs.Laws.{load-whole}
 use Rattle.validity.specs.Scan.{policies_valid}
-use Rattle.validity.specs.Scanned.{places-valid}
+use Rattle.validity.specs.Scanned.{all-range}
 use Rattle.validity.proofs.policies_valid.Goals as goal
 
-pub returns-in-0 : goal.returns-in-0
-returns-in-0 c =
-    let none = c.empty-none in
-    places-valid _ _ _ 0 {p = none.result} {q = none.result} {r = none.result} {s = none.result} c.sets_within.ensures (omega arith) refl none.ensures none.ensures none.ensures none.ensures
-
-pub returns-in-1 : goal.returns-in-1
-returns-in-1 c =
-    let none = c.empty-none in
-    places-valid _ _ _ 1 {q = none.result} {r = none.result} {s = none.result} c.sets_within-in-1.ensures (omega arith) refl refl none.ensures none.ensures none.ensures
-
-pub returns-in-2 : goal.returns-in-2
-returns-in-2 c =
-    let none = c.empty-none in
-    places-valid _ _ _ 2 {r = none.result} {s = none.result} c.sets_within-in-2.ensures (omega arith) refl refl refl none.ensures none.ensures
-
-pub returns-in-3 : goal.returns-in-3
-returns-in-3 c =
-    let none = c.empty-none in
-    places-valid _ _ _ 3 {s = none.result} c.sets_within-in-3.ensures (omega arith) refl refl refl refl none.ensures
-
-pub returns-in-4 : goal.returns-in-4
-returns-in-4 c =
-    places-valid _ _ _ 4 c.sets_within-in-4.ensures (omega arith) refl refl refl refl refl
-
-pub returns-in_default : goal.returns-in_default
+pub returns-then-count-gt4 : goal.returns-then-count-gt4
 unfolding policies_valid
-returns-in_default c =
-    simp (lt-leb c.args.count 4 (omega arith))
+returns-then-count-gt4 c =
+    simp (lt-leb c.args.count 4 (omega arith)) refl
+
+pub returns : goal.returns
+unfolding policies_valid
+returns c =
+    let a = c.args in
+    let each =
+    all_from_yields_List (λ k. subset_of (load_of a.policies.now (4 * a.c + k)) (cond (ltb k a.count) a.known empty_set)) _ _ _ c.all.ensures.ran
+    (YieldsList-from_range 0 4 4 refl refl) (λ x b q k. search (rules, tests)) in
+    let places = each ∙ all-range 4 _ _ (λ k l. ap (λ (s : TagSet). subset_of s (cond (ltb k a.count) a.known empty_set)) (load-whole a.policies.now (4 * a.c + k) (omega (arith, l)))) in
+    simp (le-leb c.args.count 4 (omega arith)) places
