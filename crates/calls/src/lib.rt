@@ -1,5 +1,5 @@
-// Starting, enabling, disabling and adding a policy set, in storage that is lent. What each answers and leaves stands in outcome/specs/Outcome.antt.
-// Replay goes by `apply_enable` and `apply_disable`, which do not judge the state.
+// Starting, enabling, disabling and adding a policy set, in storage that is lent. What each answers and leaves stands
+// in outcome/specs/Outcome.antt. Replay goes by `apply_enable` and `apply_disable`, which do not judge the state.
 #![tactic(auto)]
 
 ghost use Rattle.std.specs.Prelude.{◌≡◌, List, ℕ, ◌*◌, ◌≤◌, length};
@@ -21,7 +21,8 @@ pub struct Accepted {
     pub gain: u32,
 }
 
-// Starts a tracker of n containers in this storage: each container has its own tag alone and no policy set, and no flow is enabled.
+// Starts a tracker of n containers in this storage: each container has its own tag alone and no policy set, and no flow
+// is enabled.
 pub fn start(
     n: u32,
     tags: &mut [u64],
@@ -90,7 +91,8 @@ pub fn disable(
     apply_disable(header, flows, number)
 }
 
-// Adds a policy set to a container (document 01: a permitted set), behind those that it has. It is no event, and changes no record.
+// Adds a policy set to a container (document 01: a permitted set), behind those that it has. It is no event, and
+// changes no record.
 pub fn add_policy(
     header: Header,
     tags: &[u64],
@@ -112,7 +114,8 @@ pub fn add_policy(
     apply_add(header, policies, counts, container, policy)
 }
 
-// Enables a flow without judging the state: on a usable state (law `apply-enable`) as `enable` does. The policy sets are not looked at.
+// Enables a flow without judging the state: on a usable state (law `apply-enable`) as `enable` does. The policy sets
+// are not looked at.
 #[tactic(auto, using(std::proofs::lemmas::Bool::Decides::nat_tests), unfolding(crate::specs::Unjudged::apply_enable_of, outcome::specs::Outcome::enable_later, outcome::specs::Outcome::decided, crate::specs::Unjudged::appended_to, crate::specs::Unjudged::carrying))]
 pub fn apply_enable(
     header: Header,
@@ -148,7 +151,8 @@ pub fn apply_enable(
     })
 }
 
-// Disables the flow of this number without judging the state: on a usable state (law `apply-disable`) as `disable` does.
+// Disables the flow of this number without judging the state: on a usable state (law `apply-disable`) as `disable`
+// does.
 pub fn apply_disable(header: Header, flows: &mut [Flow], number: u32) -> Result<Accepted, Refusal>
     ensures { (tags policies counts : List ℕ) → left_by result header tags policies counts flows.new ≡ apply_disable_of (state_of header tags policies counts flows.old) number }
 {
