@@ -103,6 +103,23 @@ decimal-below = by_digits (λ v. (k : ℕ) → v < 10 ^ k → 1 ≤ k → length
     more v h ih (suc (suc k)) l p =
         omega (arith, decimal-length v h, ih (suc k) ((div-lt_iff_lt-mul {k = 10} (lit< tt)).1 (rw pow-suc at l)) (omega arith))
 
+-- no power of ten is 0
+tens : (k : ℕ) → 0 < 10 ^ k
+tens zero = lit< tt
+tens (suc k) = omega (arith, pow-suc 10 k, tens k)
+
+-- and any other takes more than k
+pub decimal-above : (v k : ℕ) → 10 ^ k ≤ v → k < length (decimal_of v)
+decimal-above = by_digits (λ v. (k : ℕ) → 10 ^ k ≤ v → k < length (decimal_of v)) last more
+  where
+    last : (v : ℕ) → v < 10 → (k : ℕ) → 10 ^ k ≤ v → k < length (decimal_of v)
+    last v h zero l = decimal-some v
+    last v h (suc k) l = absurd (omega (arith, pow-suc 10 k, tens k))
+
+    more : (v : ℕ) → 10 ≤ v → ((k : ℕ) → 10 ^ k ≤ v / 10 → k < length (decimal_of (v / 10))) → (k : ℕ) → 10 ^ k ≤ v → k < length (decimal_of v)
+    more v h ih zero l = decimal-some v
+    more v h ih (suc k) l = omega (arith, decimal-length v h, ih k (omega (arith, pow-suc 10 k)))
+
 -- a number below 1000 takes at most three digits
 pub decimal-3 : (v : ℕ) → v < 1000 → length (decimal_of v) ≤ 3
 decimal-3 v h = decimal-below v 3 h (lit≤ tt)

@@ -9,13 +9,7 @@ ghost use Rattle.decimal.specs.Decimal.{decimal_of};
 pub fn decimal_len(value: u64) -> usize
     ensures { result ≡ length (decimal_of value) }
 {
-    let mut high = value;
-    let mut n: usize = 1;
-    while 10 <= high {
-        high = high / 10;
-        n = n + 1;
-    }
-    n
+    value.checked_ilog10().unwrap_or(0) as usize + 1
 }
 
 // Writes the number's digits at `at`, or changes nothing where they do not fit.
@@ -23,17 +17,12 @@ pub fn write_decimal(out: &mut [u8], at: usize, value: u64)
     ensures { out.new ≡ (write_at out.old at (decimal_of value)).output }
 {
     let n = decimal_len(value);
-    if out.len() < at {
-        return;
-    }
-    if out.len() - at < n {
+    if out.len().saturating_sub(at) < n {
         return;
     }
     let mut rest = value;
-    let mut i = n;
-    while 0 < i {
-        i = i - 1;
-        out[at + i] = (48 + rest % 10) as u8;
-        rest = rest / 10;
+    for i in (0..n).rev() {
+        out[at + i] = b'0' + (rest % 10) as u8;
+        rest /= 10;
     }
 }

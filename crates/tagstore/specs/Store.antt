@@ -17,9 +17,9 @@ put_set ws k s =
 unfoldable pub store_of : List ℕ → ℕ → TagSet → List ℕ
 store_of ws k s = cond (leb (length ws / 4) k) ws (put_set ws k s)
 
--- the first m elements zero, or all where there are fewer
-unfoldable pub zero_front : ℕ → List ℕ → List ℕ
-zero_front m l = replicate (min m (length l)) 0 ++ drop m l
+-- the value in place of the first m elements, or of all where there are fewer
+unfoldable pub filled_front : {A : Type 0} → A → ℕ → List A → List A
+filled_front v m l = replicate (min m (length l)) v ++ drop m l
 
 -- how many (tag, container) pairs the first n sets hold: their sizes
 unfoldable pub total_of : ℕ → List ℕ → ℕ

@@ -5,7 +5,7 @@
 ghost use Rattle.std.specs.Prelude.{◌≡◌, ◌/◌, min, length};
 ghost use Rattle.tagset.specs.Set.{single_of};
 ghost use Rattle.state.specs.State.{with_sets};
-ghost use Rattle.tagstore.specs.Store.{load_of, store_of, zero_front};
+ghost use Rattle.tagstore.specs.Store.{load_of, store_of, filled_front};
 
 use tagset::TagSet;
 
@@ -40,31 +40,17 @@ pub fn store_set(words: &mut [u64], k: usize, s: TagSet)
 pub fn store_own_tags(words: &mut [u64], n: u32)
     ensures { words.new ≡ with_sets (min n (length words.old / 4)) single_of words.old }
 {
-    let mut c: u32 = 0;
-    while c < n && (c as usize) < words.len() / 4 {
-        store_set(words, c as usize, TagSet::single(c));
-        c += 1;
+    let sets = words.len() / 4;
+    for c in 0..sets.min(n as usize) {
+        store_set(words, c, TagSet::single(c as u32));
     }
 }
 
-// Zeroes the first m words, or all.
-pub fn clear_words(words: &mut [u64], m: usize)
-    ensures { words.new ≡ zero_front m words.old }
+// Writes the value over the first m elements, or over all.
+pub fn clear<T: Copy>(list: &mut [T], m: usize, zero: T)
+    ensures { list.new ≡ filled_front zero m list.old }
 {
-    let mut i: usize = 0;
-    while i < m && i < words.len() {
-        words[i] = 0;
-        i += 1;
-    }
-}
-
-// Zeroes the first m bytes, or all.
-pub fn clear_bytes(bytes: &mut [u8], m: usize)
-    ensures { bytes.new ≡ zero_front m bytes.old }
-{
-    let mut i: usize = 0;
-    while i < m && i < bytes.len() {
-        bytes[i] = 0;
-        i += 1;
+    for i in 0..m.min(list.len()) {
+        list[i] = zero;
     }
 }

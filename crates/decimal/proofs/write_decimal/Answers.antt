@@ -1,5 +1,5 @@
 -- `decimal::write_decimal` meets its contract. Assumes nothing.
-use mathlib.Core.Path.{◌≡◌, refl, sym, ap, subst, subst₂, ◌∙◌}
+use mathlib.Core.Path.{◌≡◌, refl, sym, ap, subst, ◌∙◌}
 use mathlib.Core.Logic.{by_cases}
 use mathlib.Core.List.{List, [], ◌∷◌}
 use Prim.Native.Nat.{ℕ, suc, ◌+◌, ◌-◌, ◌/◌, ◌%◌, ◌≤◌, ◌<◌}
@@ -7,7 +7,7 @@ use native.Mathlib.Nat.{le_refl, add-zero, add-suc}
 use native.Mathlib.Decide.{dec_lt}
 use native.Mathlib.Omega.{arith}
 use lib.ListN.{length, set, take, drop, get_or}
-use lib.Seq.{sets, sets-eq, length-sets, set_comm, take-length, drop-length, drop-cons, take-suc, take_at, get_or_at, get_or-take, length-take-le}
+use lib.Seq.{sets, sets-eq, set_comm, take-length, drop-length, drop-cons, take-suc, take_at, get_or_at, get_or-take, length-take-le}
 use Rattle.leb128.specs.Number.{write_at, overwrite}
 use Rattle.leb128.specs.Output.{fits-outcome, short-outcome}
 use Rattle.decimal.specs.Decimal.{decimal_of}
@@ -59,89 +59,51 @@ short : (out : List ℕ) (at v : ℕ) → (1 ≤ length (decimal_of v) → lengt
 short out at v h = (short-outcome out at (decimal_of v) (h (decimal-some v))).1
 
 -- before the first turn nothing is written
-start : {out : List ℕ} {at value n : ℕ} → n ≡ length (decimal_of value) → at + n ≤ length out → Here out at value out value n
-start {out} {at} {value} {n} e f =
+start : {out : List ℕ} {at value n : ℕ} → n ≡ length (decimal_of value) → Here out at value out value n
+start {out} {at} {value} {n} e =
     record {
-      fits = omega arith;
-      most = omega arith;
       left = λ p. sym (ap (λ (k : ℕ). take k (decimal_of value)) e ∙ take-length (decimal_of value));
       same = sym (ap (sets out (at + n)) (ap (λ (k : ℕ). drop k (decimal_of value)) e ∙ drop-length (decimal_of value)));
     }
 
 module _ {out₀ : List ℕ} {at value : ℕ} {out : List ℕ} {rest : ℕ} where
-  -- the output keeps its length
-  size : {i : ℕ} → Here out₀ at value out rest i → length out ≡ length out₀
-  size {i} h = ap length h.same ∙ length-sets out₀ (at + i) (drop i (decimal_of value))
-
-  -- the place of the next digit lies within it
-  inside : {i : ℕ} → Here out₀ at value out rest i → 0 < i → at + (i - 1) < length out
-  inside h p = omega (arith, h.fits, h.most, size h)
-
   -- a turn at place j writes the lowest digit of what is left
-  turn : (j d : ℕ) → Here out₀ at value out rest (suc j) → d ≡ 48 + rest % 10 → Here out₀ at value (set out (at + j) d) (rest / 10) j
-  turn j d h q =
+  turn : (j : ℕ) → j < length (decimal_of value) → Here out₀ at value out rest (suc j) → Here out₀ at value (set out (at + j) (48 + rest % 10)) (rest / 10) j
+  turn j l h =
       let ds : List ℕ = decimal_of value in
       let e : decimal_of rest ≡ take (suc j) ds = h.left (omega arith) in
       record {
-        fits = h.fits;
-        most = omega (arith, h.most);
-        left = higher ds rest j h.most e;
+        left = higher ds rest j l e;
         same =
-            ap (λ (o : List ℕ). set o (at + j) d) h.same
-            ∙ set-sets (drop (suc j) ds) out₀ (at + j) (at + suc j) d (omega arith)
-            ∙ ap (λ (k : ℕ). sets (set out₀ (at + j) d) k (drop (suc j) ds)) (add-suc at j)
-            ∙ ap (sets out₀ (at + j)) (ap (λ (x : ℕ). x ∷ drop (suc j) ds) (q ∙ sym (lowest ds rest j h.most e)) ∙ sym (drop-cons ds j 0 h.most));
+            ap (λ (o : List ℕ). set o (at + j) (48 + rest % 10)) h.same
+            ∙ set-sets (drop (suc j) ds) out₀ (at + j) (at + suc j) (48 + rest % 10) (omega arith)
+            ∙ ap (λ (k : ℕ). sets (set out₀ (at + j) (48 + rest % 10)) k (drop (suc j) ds)) (add-suc at j)
+            ∙ ap (sets out₀ (at + j)) (ap (λ (x : ℕ). x ∷ drop (suc j) ds) (sym (lowest ds rest j l e)) ∙ sym (drop-cons ds j 0 l));
       }
 
-  -- the same in the code's numbers: the place k that it writes, the digit d, and what is left after it
-  again : {i k d r : ℕ} → Here out₀ at value out rest i → 0 < i → k ≡ at + (i - 1) → d ≡ 48 + rest % 10 → r ≡ rest / 10 → Here out₀ at value (set out k d) r (i - 1)
-  again {i} {k} {d} {r} h p place digit next =
-      subst₂ (λ (x y : ℕ). Here out₀ at value (set out x d) y (i - 1)) (sym place) (sym next)
-      (turn (i - 1) d (subst (Here out₀ at value out rest) (omega arith) h) digit)
-
   -- after the last turn all digits are written
-  done : {i : ℕ} → Here out₀ at value out rest i → i ≡ 0 → out ≡ (write_at out₀ at (decimal_of value)).output
+  done : {i : ℕ} → Here out₀ at value out rest i → i ≡ 0 → at + length (decimal_of value) ≤ length out₀ → out ≡ (write_at out₀ at (decimal_of value)).output
   unfolding overwrite
-  done {i} h e =
+  done {i} h e f =
       h.same
       ∙ ap (λ (k : ℕ). sets out₀ (at + k) (drop k (decimal_of value))) e
       ∙ ap (λ (k : ℕ). sets out₀ k (decimal_of value)) (add-zero at)
-      ∙ sets-eq (decimal_of value) out₀ at h.fits
-      ∙ (fits-outcome out₀ at (decimal_of value) h.fits).1
+      ∙ sets-eq (decimal_of value) out₀ at f
+      ∙ (fits-outcome out₀ at (decimal_of value) f).1
 
-pub returns-then-out-at : goal.returns-then-out-at
-returns-then-out-at c =
+pub returns-then-saturating_sub-n : goal.returns-then-saturating_sub-n
+returns-then-saturating_sub-n c =
     let a = c.args in short a.out.now a.at a.value (λ some. omega arith)
-
-pub overflow_sub-out : goal.overflow_sub-out
-overflow_sub-out c =
-    omega arith
-
-pub returns-then-out-at-2 : goal.returns-then-out-at-2
-returns-then-out-at-2 c =
-    let a = c.args in
-    short a.out.now a.at a.value (λ some. omega (arith, c.decimal_len-n.ensures))
 
 pub loop-i-init : goal.loop-i-init
 loop-i-init c =
-    start c.decimal_len-n.ensures (omega arith)
-
-pub overflow_add-out-in-loop-i : goal.overflow_add-out-in-loop-i
-overflow_add-out-in-loop-i c =
-    omega (arith, inside c.loop-i.invariant (omega arith), size c.loop-i.invariant)
-
-pub bounds-out-at : goal.bounds-out-at
-bounds-out-at c =
-    omega (arith, inside c.loop-i.invariant (omega arith))
+    start c.decimal_len-n.ensures
 
 pub loop-i-preserved : goal.loop-i-preserved
 loop-i-preserved c =
-    again c.loop-i.invariant (omega arith) (omega arith) (omega arith) (omega arith)
-
-pub shape_of-out : goal.shape_of-out
-shape_of-out c =
-    size c.loop-i.invariant
+    let p : c.loop-i.i ≡ suc (c.loop-i.i - 1) = omega arith in
+    turn (c.loop-i.i - 1) (omega arith) (subst (Here c.args.out.now c.args.at c.args.value c.loop-i.out c.loop-i.rest) p c.loop-i.invariant)
 
 pub returns : goal.returns
 returns c =
-    done c.loop-i.invariant (omega arith)
+    done c.loop-i.invariant (omega arith) (omega (arith, decimal-some c.args.value))
