@@ -1,58 +1,97 @@
--- The sets found, from pass to pass: the containers whose sets a pass changes are listed, and these sets are copied again after it. Assumes nothing.
-use Rattle.std.specs.Prelude.{◌≡◌, ◌⊎◌, ◌≢◌, List, ℕ, ◌+◌, ◌*◌, ◌/◌, ◌≤◌, ◌<◌, length, get_or, set, leb}
-use Rattle.std.proofs.Common.{sym, ap, ◌∙◌, inl, inr, ⊎_elim, arith, get_or-set_same, get_or-set_other}
+-- The sets found, from pass to pass: the sets that a pass changes lie between two containers, and what lies there is
+-- copied again after it. Assumes nothing.
+use Rattle.std.specs.Prelude.{◌≡◌, ◌⊎◌, ◌≢◌, ℕ, ◌+◌, ◌-◌, ◌*◌, ◌≤◌, ◌<◌, min, max}
+use Rattle.std.specs.Prelude.{List, ◌++◌, length, get_or, take, drop}
+use Rattle.std.specs.List.{between}
+use Rattle.std.proofs.Common.{sym, ap, ◌∙◌, inl, inr, ⊎_elim, arith, length-take, get_or-take, get_or-drop}
+use Rattle.std.proofs.lemmas.List.{get_or_append_left, get_or-append_right}
+use Rattle.std.proofs.lemmas.List.Edits.{get_or-between, length-between}
 use Rattle.std.proofs.Math.Logic.{by_cases}
-use Rattle.std.proofs.Math.Decide.{ℕ_discrete}
-use borrow.Table.Steps.{cases}
+use Rattle.std.proofs.Math.Decide.{dec_lt, ℕ_discrete}
 use Rattle.state.specs.State.{set_at}
-use Rattle.tagstore.specs.Store.{load_of, put_set, store_of}
-use Rattle.tagstore.specs.Laws.{load-whole, store-whole}
-use Rattle.tagstore.proofs.Put.{put-words, put-other-set}
 
--- container a is listed from place i up to m
-abbrev pub Listed : List ℕ → ℕ → ℕ → ℕ → Type 0
-Listed changed i m a = (j : ℕ) × (i ≤ j) × (j < m) × (get_or changed j 0 ≡ a)
+-- the sets found are the first n sets of these words, but for the containers from `first` up to `end`
+pub record Found (n first end : ℕ) (found ws : List ℕ) : Type 0 where
+  pub at : (a : ℕ) → a < n → ((first ≤ a) × (a < end)) ⊎ (set_at found a ≡ set_at ws a)
 
--- the sets found are the first n sets of these words, but for containers that are listed from place i up to m
-pub record Found (n : ℕ) (changed : List ℕ) (i m : ℕ) (found ws : List ℕ) : Type 0 where
-  pub at : (a : ℕ) → a < n → Listed changed i m a ⊎ (set_at found a ≡ set_at ws a)
+-- where all sets are those of the words, no container is left out
+pub all_found : {n first end : ℕ} {found ws : List ℕ} → ((a : ℕ) → a < n → set_at found a ≡ set_at ws a)
+    → Found n first end found ws
+all_found same = record { at = λ a l. inr (same a l) }
 
--- where none is listed they are all
-pub all_found : {n m : ℕ} {changed found ws : List ℕ} → Found n changed m m found ws → (a : ℕ) → a < n → set_at found a ≡ set_at ws a
-all_found f a l = ⊎_elim (λ w. absurd (omega (arith, w.1, w.2))) (λ e. e) (f.at a l)
-
--- one container more is listed, the only one whose set has changed
-pub found-more : {n m : ℕ} {changed found ws : List ℕ} (b : ℕ) {ws' : List ℕ} → m < length changed → Found n changed 0 m found ws
-    → ((a : ℕ) → a ≢ b → set_at ws' a ≡ set_at ws a) → Found n (set changed m b) 0 (m + 1) found ws'
-found-more {n} {m} {changed} {found} {ws} b r f same = record {
+-- the set of one container more has changed
+pub found-more : {n first end : ℕ} {found ws : List ℕ} (b : ℕ) {ws' : List ℕ} → Found n first end found ws
+    → ((a : ℕ) → a ≢ b → set_at ws' a ≡ set_at ws a) → Found n (min first b) (max end (b + 1)) found ws'
+found-more {n} {first} {end} {found} {ws} b f same = record {
   at = λ a l.
-      by_cases (ℕ_discrete a b) (λ q. inl (m, omega arith, omega arith, get_or-set_same changed m b 0 r ∙ sym q))
-      (λ q.
-      ⊎_elim (λ w. inl (w.0, omega arith, omega (arith, w.2), get_or-set_other changed m w.0 b 0 (λ e. omega (arith, e, w.2)) ∙ w.3))
-      (λ e. inr (e ∙ sym (same a q))) (f.at a l));
+      by_cases (ℕ_discrete a b) (λ q. inl (omega (arith, q), omega (arith, q)))
+      (λ q. ⊎_elim (λ w. inl (omega (arith, w.0), omega (arith, w.1))) (λ e. inr (e ∙ sym (same a q))) (f.at a l));
 }
 
--- a set stored leaves the others
-store_other : (ws : List ℕ) (k j : ℕ) (vs : List ℕ) → j ≢ k → set_at (store_of ws k (load_of vs k)) j ≡ set_at ws j
-unfolding store_of
-store_other ws k j vs n = cases (leb (length ws / 4) k) (λ q. rw q) (λ q. rw q (put-other-set ws k (load_of vs k) j n))
+-- the words found with the sets of ws from `first` up to `end`
+abbrev pub copied : ℕ → ℕ → List ℕ → List ℕ → List ℕ
+copied first end ws found = take (4 * first) found ++ (between (4 * first) (4 * end) ws ++ drop (4 * end) found)
 
--- a set copied, where both lists have it
-store-this : (ws : List ℕ) (k : ℕ) (vs : List ℕ) → 4 * k + 4 ≤ length ws → 4 * k + 4 ≤ length vs → set_at (store_of ws k (load_of vs k)) k ≡ set_at vs k
+-- sets are the same where their words are
+same-words : (ws vs : List ℕ) (k : ℕ) → ((i : ℕ) → 4 * k ≤ i → i < 4 * k + 4 → get_or ws i 0 ≡ get_or vs i 0)
+    → set_at ws k ≡ set_at vs k
 unfolding set_at
-store-this ws k vs hw hv =
-    ap (λ (x : List ℕ). set_at x k) (store-whole ws k (load_of vs k) hw ∙ ap (put_set ws k) (load-whole vs k hv)) ∙ put-words ws k (set_at vs k) hw
+same-words ws vs k h =
+    let a = h (4 * k) (omega arith) (omega arith) in
+    let b = h (4 * k + 1) (omega arith) (omega arith) in
+    let c = h (4 * k + 2) (omega arith) (omega arith) in
+    let d = h (4 * k + 3) (omega arith) (omega arith) in
+    cc
 
--- the set of the first that is listed is copied again
-pub found-again : {n m j : ℕ} {changed found ws : List ℕ} → 4 * n ≤ length found → 4 * n ≤ length ws → Found n changed j m found ws
-    → Found n changed (j + 1) m (store_of found (get_or changed j 0) (load_of ws (get_or changed j 0))) ws
-found-again {n} {m} {j} {changed} {found} {ws} hf hw f = record {
-  at = λ a l.
-      by_cases (ℕ_discrete a (get_or changed j 0)) (λ q. inr (rw (← q) (store-this found a ws (omega arith) (omega arith))))
-      (λ q.
-      ⊎_elim (λ w. inl (w.0, omega (arith, w.1, other a w q), w.2, w.3)) (λ e. inr (store_other found (get_or changed j 0) a ws q ∙ e))
-      (f.at a l));
-}
-  where
-    other : (a : ℕ) (w : Listed changed j m a) → a ≢ get_or changed j 0 → w.0 ≢ j
-    other a w q e = q (sym w.3 ∙ ap (λ (i : ℕ). get_or changed i 0) e)
+module _ (first end : ℕ) (ws found : List ℕ) (o : first ≤ end)
+    (hw : 4 * end ≤ length ws) (hf : 4 * end ≤ length found) where
+  -- before the words from ws those found
+  front : length (take (4 * first) found) ≡ 4 * first
+  front = omega (arith, length-take (4 * first) found)
+
+  -- and behind them
+  behind : (i : ℕ) → 4 * first ≤ i
+      → get_or (copied first end ws found) i 0
+      ≡ get_or (between (4 * first) (4 * end) ws ++ drop (4 * end) found) (i - 4 * first) 0
+  behind i l = get_or-append_right (take (4 * first) found) _ (4 * first) i 0 front l
+
+  part : length (between (4 * first) (4 * end) ws) ≡ 4 * end - 4 * first
+  part = length-between ws (4 * first) (4 * end) hw
+
+  -- a set from `first` up to `end` is that of ws
+  copied-inside : (a : ℕ) → first ≤ a → a < end → set_at (copied first end ws found) a ≡ set_at ws a
+  copied-inside a l h =
+      same-words (copied first end ws found) ws a
+      (λ i p q. let at : 4 * first + (i - 4 * first) ≡ i = omega arith in
+      behind i (omega arith)
+      ∙ get_or_append_left (between (4 * first) (4 * end) ws) _ 0 (i - 4 * first) (omega (arith, part))
+      ∙ get_or-between ws (4 * first) (4 * end) (i - 4 * first) 0 (omega arith)
+      ∙ ap (λ (k : ℕ). get_or ws k 0) at)
+
+  -- any other is the one found
+  copied-before : (a : ℕ) → a < first → set_at (copied first end ws found) a ≡ set_at found a
+  copied-before a h =
+      same-words (copied first end ws found) found a
+      (λ i p q. get_or_append_left (take (4 * first) found) _ 0 i (omega (arith, front))
+      ∙ get_or-take (4 * first) found i 0 (omega arith))
+
+  copied-after : (a : ℕ) → end ≤ a → set_at (copied first end ws found) a ≡ set_at found a
+  copied-after a h =
+      same-words (copied first end ws found) found a
+      (λ i p q. let at : 4 * end + (i - 4 * end) ≡ i = omega arith in
+      behind i (omega arith)
+      ∙ get_or-append_right (between (4 * first) (4 * end) ws) (drop (4 * end) found) (4 * end - 4 * first) _ 0 part
+      (omega arith)
+      ∙ get_or-drop (4 * end) found (i - 4 * first - (4 * end - 4 * first)) 0
+      ∙ ap (λ (k : ℕ). get_or found k 0) (omega arith))
+
+  -- so all are then those of ws
+  pub found-again : {n : ℕ} → Found n first end found ws → (a : ℕ) → a < n
+      → set_at (copied first end ws found) a ≡ set_at ws a
+  found-again {n} f a l =
+      by_cases (dec_lt a first) (λ h. copied-before a h ∙ outside a l (λ w. omega (arith, w.0)))
+      (λ h. by_cases (dec_lt a end) (λ g. copied-inside a (omega (arith, h)) g)
+      (λ g. copied-after a (omega (arith, g)) ∙ outside a l (λ w. omega (arith, g, w.1))))
+    where
+      outside : (a : ℕ) → a < n → ((first ≤ a) × (a < end) → ⊥) → set_at found a ≡ set_at ws a
+      outside a l out = ⊎_elim (λ w. absurd (out w)) (λ e. e) (f.at a l)

@@ -1,11 +1,11 @@
--- What the functions of propagation need: sets copied one word more, an edge that changes nothing, and what is known of edges carried and of passes made.
--- How these grow flow by flow and pass by pass is in proofs/Turns.antt. Assumes nothing.
-use Rattle.std.specs.Prelude.{◌≡◌, refl, Bool, true, false, ◌&&◌, not, cond, ◌⊎◌, ◌≢◌, ℕ, suc, ◌+◌, ◌*◌, ◌≤◌, ◌<◌, length, get_or, set, take, drop}
-use Rattle.std.proofs.Common.{sym, ap, ap₂, ◌∙◌, subst, ⊎_elim, zero-add, add-one, arith, get_or-take, length-take-le}
+-- What the functions of propagation need: an edge that changes nothing, and what is known of edges carried and of
+-- passes made. How these grow flow by flow and pass by pass is in proofs/Turns.antt. Assumes nothing.
+use Rattle.std.specs.Prelude.{◌≡◌, refl, Bool, true, false, ◌&&◌, not, cond, ◌⊎◌, ◌≢◌, ℕ, ◌+◌, ◌≤◌, ◌<◌, min, max}
+use Rattle.std.proofs.Common.{sym, ap, ◌∙◌, inr, ⊎_elim, arith}
 use Rattle.std.proofs.lemmas.Bool.{not-false}
-use mathlib.Core.List.{List, [], ◌++◌}
-use Rattle.std.proofs.Math.ListN.{get_or-append}
-use Rattle.std.proofs.Math.Seq.{paste-suc}
+use mathlib.Core.List.{List, []}
+use Rattle.std.proofs.Math.Logic.{by_cases}
+use Rattle.std.proofs.Math.Decide.{dec_lt}
 use borrow.Table.Steps.{cases}
 use Rattle.model.specs.declared.Flow.{Flow}
 use Rattle.model.specs.Model.{edges, edges_of}
@@ -16,30 +16,10 @@ use Rattle.state.specs.State.{set_at}
 use Rattle.state.specs.Layout.{Fit64}
 use Rattle.state.proofs.LayoutLaws.{set-fits}
 use Rattle.tagstore.specs.Store.{put_set}
-use Rattle.tagstore.specs.Laws.{set-cong}
 use Rattle.tagstore.proofs.Put.{put_same, put-other-set}
 use Rattle.propagation.specs.Pass.{inside, carried, new_tags, carried_all, new_in_all, passed, new_in_passes, passes_of}
 use Rattle.propagation.specs.Found.{Found, found-more}
 use Rattle.propagation.specs.Exact.{inside-iff, edge-inside, edge-outside, passes-some}
-
--- COPYING
-
--- with i elements of s copied over those of d, a store copies one more
-pub copy_more : {A : Type 0} (s d : List A) (i : ℕ) (z : A) → i < length s → i < length d
-    → set (take i s ++ drop i d) i (get_or s i z) ≡ take (i + 1) s ++ drop (i + 1) d
-copy_more s d i z hs hd =
-    let e : 0 + suc i ≡ i + 1 = omega arith in
-    subst (λ (k : ℕ). set (take i s ++ drop k d) k (get_or s i z) ≡ take (i + 1) s ++ drop (i + 1) d) (zero-add i)
-    (paste-suc d 0 s i z (omega arith) hs ∙ ap₂ (λ (j k : ℕ). take j s ++ drop k d) (sym (add-one i)) e)
-
--- each element of the copy is that of s
-copied_at : {A : Type 0} (m : ℕ) (s d : List A) (i : ℕ) (z : A) → m ≤ length s → i < m → get_or (take m s ++ drop m d) i z ≡ get_or s i z
-copied_at m s d i z hs h =
-    get_or-append (take m s) (drop m d) z i (omega (arith, length-take-le m s hs)) ∙ get_or-take m s i z h
-
--- so each set of n copied sets is that of the words copied
-pub copied-set : (n : ℕ) (ws vs : List ℕ) (k : ℕ) → 4 * n ≤ length ws → k < n → set_at (take (4 * n) ws ++ drop (4 * n) vs) k ≡ set_at ws k
-copied-set n ws vs k hw h = set-cong (take (4 * n) ws ++ drop (4 * n) vs) ws k (λ i l. copied_at (4 * n) ws vs i 0 hw (omega arith))
 
 -- ONE EDGE
 
@@ -92,12 +72,21 @@ pub carried_none : (n : ℕ) (found ws : List ℕ) → Carried n found (edges_of
 unfolding carried_all new_in_all edges_of
 carried_none n found ws = record { sets = refl; count = refl }
 
--- where a flow adds tags its destination is listed
-pub found-listed : {n m : ℕ} {changed found ws ws' : List ℕ} (f : Flow) {new : ℕ} → m < length changed → Carried n found (edges f) ws ws' new
-    → Found n changed 0 m found ws → Found n (set changed m f.to) 0 (m + 1) found ws'
+-- a flow that adds tags has its destination below n
+pub adds-inside : {n : ℕ} {found ws ws' : List ℕ} (f : Flow) {new : ℕ} → Carried n found (edges f) ws ws' new
+    → new ≢ 0 → f.to < n
+unfolding new_in_all
+adds-inside {n} {found} {ws} f made some =
+    by_cases (dec_lt f.to n) (λ l. l)
+    (λ l. absurd (some (omega (arith, made.count, (edge-past n found (f.from, f.to) ws (inr (omega (arith, l)))).1))))
+
+-- the sets found are then those of the words but for a part that has its destination
+pub found-carried : {n first end : ℕ} {found ws ws' : List ℕ} (f : Flow) {new : ℕ}
+    → Carried n found (edges f) ws ws' new → Found n first end found ws
+    → Found n (min first f.to) (max end (f.to + 1)) found ws'
 unfolding carried_all
-found-listed {n} {m} {changed} {found} {ws} f r made now =
-    found-more f.to r now (λ a h. ap (λ (l : List ℕ). set_at l a) made.sets ∙ edge_other n found (f.from, f.to) ws a h)
+found-carried {n} {found = found} {ws} f made now =
+    found-more f.to now (λ a h. ap (λ (l : List ℕ). set_at l a) made.sets ∙ edge_other n found (f.from, f.to) ws a h)
 
 -- THE PASSES
 

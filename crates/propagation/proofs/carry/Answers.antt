@@ -2,7 +2,7 @@
 use mathlib.Core.Path.{◌≡◌, sym, ap, ap₂, ◌∙◌}
 use mathlib.Core.Bool.{true}
 use mathlib.Core.List.{List}
-use mathlib.Core.Logic.{inl, inr}
+use mathlib.Core.Logic.{◌⊎◌, inl, inr}
 use Prim.Native.Nat.{ℕ, ◌+◌, ◌*◌, ◌≤◌, ◌<◌}
 use native.Mathlib.Omega.{arith}
 use lib.ListN.{length}
@@ -18,6 +18,7 @@ use Rattle.propagation.specs.Exact.{inside-iff, edge-inside}
 use Rattle.propagation.specs.Turns.{edge-past, edge_same, edge_none}
 use Rattle.propagation.proofs.carry.Goals as goal
 use Rattle.propagation.proofs.carry.Goals.{Else-n-b, After-size-2}
+use Rattle.propagation.proofs.carry.Goals.{then-n-a-via-then-n-a, then-n-a-via-else-n-a+then-n-b}
 
 -- the two facts of an edge, and that the words stay where it adds no tag
 all : (n : ℕ) (found : List ℕ) (e : ℕ × ℕ) (tags : List ℕ) → Fit64 found → Fit64 tags → (ws : List ℕ) (r : ℕ)
@@ -87,13 +88,11 @@ larger c i =
 
 pub returns-then-n-a : goal.returns-then-n-a
 returns-then-n-a c =
-    let e = edge-past c.args.n c.args.found.now (c.args.a, c.args.b) c.args.tags.now (inl c.if-n-a.true) in
-    let both = all c.args.n c.args.found.now (c.args.a, c.args.b) c.args.tags.now (λ i. (c.type_inv.found i).fits) (λ i. (c.type_inv.tags i).fits) c.args.tags.now 0 e in
-    record { sets = both.0; gain = both.1.0; none = both.1.1 }
-
-pub returns-then-n-b : goal.returns-then-n-b
-returns-then-n-b c =
-    let e = edge-past c.args.n c.args.found.now (c.args.a, c.args.b) c.args.tags.now (inr c.if-n-b.true) in
+    let past : (c.args.n ≤ c.args.a) ⊎ (c.args.n ≤ c.args.b) = elim c.then-n-a.branch [
+      | then-n-a-via-then-n-a w ↦ inl w.if-n-a.true
+      | then-n-a-via-else-n-a+then-n-b w ↦ inr w.if-n-b.true
+    ] in
+    let e = edge-past c.args.n c.args.found.now (c.args.a, c.args.b) c.args.tags.now past in
     let both = all c.args.n c.args.found.now (c.args.a, c.args.b) c.args.tags.now (λ i. (c.type_inv.found i).fits) (λ i. (c.type_inv.tags i).fits) c.args.tags.now 0 e in
     record { sets = both.0; gain = both.1.0; none = both.1.1 }
 
