@@ -2,4 +2,4 @@ pub mod Steps
 pub mod Laws
 pub mod Joins
 pub mod Numbers
-pub mod Other
+pub mod Replies
