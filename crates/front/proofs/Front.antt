@@ -2,6 +2,7 @@
 use Rattle.std.specs.Prelude.{◌≡◌, Bool, List, [], ◌∷◌, ◌++◌, ℕ, zero, suc, ◌+◌, ◌≤◌, min, ltb, length, take, drop}
 use Rattle.std.proofs.Math.Path.{refl}
 use Rattle.std.proofs.Common.{sym, ap, ap₂, ◌∙◌, append_assoc, arith, length-take, take-append-drop, drop_of_length-le, take-take, take_at, drop_at, length-take-le}
+use Rattle.std.proofs.lemmas.Bool.Decides.{nat_tests}
 use Rattle.std.proofs.Math.Logic.{by_cases}
 use Rattle.std.proofs.Math.Decide.{dec_lt, ℕ_discrete}
 use Rattle.refusal.specs.Order.{first_of}
@@ -15,7 +16,6 @@ use Rattle.tagset.specs.declared.TagSet.{TagSet}
 use Rattle.state.specs.State.{Storage, State, bad_size, flows_of, with_flows}
 use Rattle.state.specs.Valid.{in_limits, counts_in_limits, numbers_rise, ends_proper, tags_known, own_tags, sets_carried, unused_zero, valid_of, state_order}
 use Rattle.state.specs.IsValid.{Usable}
-use Rattle.validity.specs.Lent.{least-below}
 use Rattle.state.proofs.Judging.{invalid, by_state, short-first, invalid-first}
 use Rattle.outcome.specs.Outcome.{Outcome, decided, start_order, started, start_of, no_header, enable_later, enable_order, gain_of, changed, enabling, enable_of, disable_later, disable_order, disabling, disable_of, add_later, add_order, adding, add_of, Call, ask, add, outcome_of}
 use Rattle.outcome.proofs.Refusals.{decided-number}
@@ -40,6 +40,10 @@ pub front-of-beyond : (more : List Flow) (s : State) → length s.storage.flows 
 front-of-beyond more s h = ap (with_table s) (take_at s.storage.flows more 512 h)
 
 -- THE ORDER
+
+-- the least of a number and b is below b exactly where the number is
+pub least-below : (a b : ℕ) → ltb (min a b) b ≡ ltb a b
+least-below a b = grind (arith, nat_tests)
 
 -- the first 512 records are fewer than 512 exactly where the table has fewer
 front-short : (fs : List Flow) → ltb (length (take 512 fs)) 512 ≡ ltb (length fs) 512
