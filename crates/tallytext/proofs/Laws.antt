@@ -1,5 +1,5 @@
 -- What the text of `tally` is, line by line, that a buffer of 264,256 bytes always holds it, and what is written where it does not fit. Assumes nothing.
-use Rattle.std.specs.Prelude.{◌≡◌, Bool, true, not, ◌&&◌, List, [], ◌∷◌, ◌++◌, map, ◌≢◌, ◌↔◌, ℕ, zero, suc, ◌+◌, ◌-◌, ◌≤◌, ◌<◌, eqb, length, get_or, take, drop}
+use Rattle.std.specs.Prelude.{◌≡◌, Bool, true, not, ◌&&◌, Result, Ok, Err, List, [], ◌∷◌, ◌++◌, map, ◌≢◌, ◌↔◌, ℕ, zero, suc, ◌+◌, ◌-◌, ◌≤◌, ◌<◌, eqb, length, get_or, take, drop}
 use Rattle.std.proofs.Math.Path.{refl, ap}
 use Rattle.std.proofs.Common.{sym, ap₂, ◌∙◌, ⊎_elim, suc-ne-zero, zero-add, add-zero, arith, length-append, get_or-append-add, take_at, lt-ltb, le-ltb, ne_eqb}
 use Rattle.std.proofs.Math.Bool.{cond}
@@ -11,8 +11,8 @@ use Rattle.std.proofs.lemmas.List.{length-replicate}
 use Rattle.std.proofs.Math.ListN.{get_or-append}
 use borrow.Table.Steps.{cases}
 use Rattle.truth.specs.Truth.{and_both}
-use Rattle.leb128.specs.declared.Encoded.{Encoded}
-use Rattle.leb128.specs.declared.Encoded.TheVariants.{Next, ShortOutput}
+use Rattle.refusal.specs.declared.Refusal.{Refusal}
+use Rattle.refusal.specs.declared.Refusal.TheVariants.{ShortOutput}
 use Rattle.leb128.specs.Answer.{Writing, wrote, unwritten, writing_of}
 use Rattle.leb128.specs.Number.{IsBytes, Written}
 use Rattle.leb128.specs.Output.{overwrite-start, write-fits, write-short}
@@ -31,11 +31,12 @@ use Rattle.ranking.specs.Ranking.{ranking_of, ranked_by}
 use Rattle.ranking.specs.Laws.{ranking-length}
 use Rattle.replay.specs.declared.Replayed.{Replayed}
 use Rattle.replay.specs.Replay.{Replay, replay_of, containers_in}
-use Rattle.replay.specs.Replies.{replay_by, ending_of}
+use Rattle.replay.specs.Replies.{replay_by}
 use Rattle.replay.specs.Laws.{replay-not-begun}
 use Rattle.replay.proofs.Laws.{replay-containers, replay-events}
 use Rattle.tallytext.specs.Words.{spaced_words, line_with}
 use Rattle.tallytext.proofs.Words.{line-words, events-line-words, refused-line-words}
+use Rattle.tallytext.specs.Replies.{report_in}
 use Rattle.tallytext.specs.Text.{events_word, gain_word, refused_word, at_word, space, newline, those, tags_rising, spaced, line_of, lines_of, events_line, refused_line, last_line, report_of, replay_text, text_of, new_storage, left_of, tally_of}
 use Rattle.tallytext.proofs.Pieces.{those-in, those-out, spaced-one, lines-length, ranking-below}
 use Rattle.replay.proofs.Numbers.{replay-room, replay-gain, replay-refusal, replay-byte}
@@ -110,7 +111,7 @@ long-report bs lent ws h = no-container ws 10 16384 0 0 ∙ last-refused 9 16384
 -- and for a replay that gave back r
 pub replay-report : (bs : List ℕ) (lent : Storage) (r : Replayed) (tags policies counts : List ℕ) (flows : List Flow) → length bs ≤ 16384
     → replay_by r tags policies counts flows ≡ replay_of bs lent
-    → report_of r.header.containers tags (ending_of r.ending) r.byte r.events r.gain ≡ text_of bs lent
+    → report_in r tags ≡ text_of bs lent
 unfolding replay_text
 replay-report bs lent r tags policies counts flows h e = ap replay_text e ∙ sym (text-of-replay bs lent h)
 
@@ -337,13 +338,13 @@ module _ (bs : List ℕ) (lent : Storage) (out : List ℕ) where
   tally-suffices are h = (tally-fits (omega (arith, text-fits bs lent are))).0
 
   -- so what a call leaves up to the position that it answers is the text, and it does not answer 10
-  module _ (are : IsBytes bs) (h : 264256 ≤ length out) {r : Encoded} (a : writing_of r ≡ (tally_of bs lent out).answer) where
-    pub tally-prints : {left : List ℕ} → left ≡ (tally_of bs lent out).output → (p : ℕ) → r ≡ Next p → take p left ≡ text_of bs lent
+  module _ (are : IsBytes bs) (h : 264256 ≤ length out) {r : Result ℕ Refusal} (a : writing_of r ≡ (tally_of bs lent out).answer) where
+    pub tally-prints : {left : List ℕ} → left ≡ (tally_of bs lent out).output → (p : ℕ) → r ≡ Ok p → take p left ≡ text_of bs lent
     tally-prints {left} o p n =
         let e : p ≡ length (text_of bs lent) = ap (λ (w : Writing). w.next) (sym (ap writing_of n) ∙ a ∙ tally-suffices are h) in
         let l : left ≡ text_of bs lent ++ drop (length (text_of bs lent)) out = o ∙ (tally-fits (omega (arith, text-fits bs lent are))).1 in
         ap₂ take e l ∙ take_at (text_of bs lent) (drop (length (text_of bs lent)) out) (length (text_of bs lent)) refl
 
-    pub tally-not-short : r ≢ ShortOutput
+    pub tally-not-short : r ≢ Err ShortOutput
     tally-not-short n =
         let z : ◌≡◌ {A = ℕ} 10 0 = ap (λ (w : Writing). w.refusal) (sym (ap writing_of n) ∙ a ∙ tally-suffices are h) in omega (arith, z)

@@ -1,4 +1,5 @@
 pub mod Text
+pub mod Replies
 pub mod Pieces
 pub mod Laws
 pub mod Words

@@ -1,94 +1,72 @@
--- Input that is too long is not run; of any other the run is the definition's, and so is what is written of it. Assumes nothing.
-use Rattle.std.proofs.Common.{◌≡◌, sym, ap, subst, ◌∙◌, List, ℕ, ◌*◌, ◌≤◌, ◌<◌, arith, length, replicate, take_all}
-use Rattle.std.proofs.Math.ListN.{length-replicate}
-use Rattle.leb128.specs.Answer.{Writing}
+-- Input that is too long is not run; of any other the run is the definition's, and so is what is written of it.
+-- Assumes nothing.
+use Rattle.std.proofs.Common.{◌≡◌, sym, ap, subst, ◌∙◌, List, ℕ, ◌*◌, ◌≤◌, arith, length, replicate}
 use Rattle.leb128.specs.Number.{write_at}
 use Rattle.model.specs.declared.Flow.{Flow}
 use Rattle.state.specs.State.{Storage, storage_of, state_of, no_flow}
-use Rattle.flowslice.proofs.Laws.{stored-length}
 use Rattle.replay.specs.declared.Replayed.{Replayed}
 use Rattle.replay.specs.Replay.{Replay, replay_of}
-use Rattle.replay.specs.Replies.{ending_of, replay_by}
-use Rattle.tallytext.specs.Text.{report_of, text_of, left_of}
+use Rattle.replay.specs.Replies.{replay_by}
 use Rattle.replay.proofs.Numbers.{replay-room}
+use Rattle.tallytext.specs.Text.{text_of, left_of}
+use Rattle.tallytext.specs.Replies.{report_in}
 use Rattle.tallytext.proofs.Laws.{left-of-replay, left-of-long-input, long-report, replay-report}
 use Rattle.report.proofs.tally.Goals as goal
-use Rattle.report.proofs.tally.Goals.{After-replay-run}
+use Rattle.report.proofs.tally.Goals.{Joined-bytes-gt16384, then-bytes-gt16384, else-bytes-gt16384}
 
-module _ (out : List ℕ) {t u : List ℕ} (e : t ≡ u) where
-  -- what was written of a text, said of one that is the same
-  wrote : {a : Writing} {o : List ℕ} → (a ≡ (write_at out 0 t).answer) × (o ≡ (write_at out 0 t).output)
-      → (a ≡ (write_at out 0 u).answer) × (o ≡ (write_at out 0 u).output)
-  wrote (a, o) = (a ∙ ap (λ (x : List ℕ). (write_at out 0 x).answer) e, o ∙ ap (λ (x : List ℕ). (write_at out 0 x).output) e)
-
--- where the input was run
-module _ (c : After-replay-run) where
+-- after the test
+module _ (c : Joined-bytes-gt16384) where
   -- the storage that the call was given
   abbrev lent : Storage
   lent = storage_of c.args.tags.now c.args.policies.now c.args.counts.now (replicate 512 no_flow)
 
-  -- the lists that it left
-  abbrev tags : List ℕ
-  tags = c.replay-run.new.tags
+  -- the ranking can be written, the report is the input's text, and what is left is the definition's
+  abbrev Known : Replayed → List ℕ → List ℕ → List ℕ → List Flow → Type 0
+  Known run tags policies counts flows =
+      ((run.header.containers ≤ 256) × (4 * run.header.containers ≤ length tags))
+      × (report_in run tags ≡ text_of c.args.bytes.now lent)
+      × (state_of run.header tags policies counts flows ≡ left_of c.args.bytes.now lent)
 
-  abbrev policies : List ℕ
-  policies = c.replay-run.new.policies
+  -- so it is of a replay of the input
+  replayed : (run : Replayed) (tags policies counts : List ℕ) (flows : List Flow)
+      → length c.args.bytes.now ≤ 16384
+      → replay_by run tags policies counts flows ≡ replay_of c.args.bytes.now lent
+      → Known run tags policies counts flows
+  replayed run tags policies counts flows short e = (
+    subst (λ (r : Replay). let n = r.state.header.containers in (n ≤ 256) × (4 * n ≤ length r.state.storage.tags))
+        (sym e) (replay-room c.args.bytes.now lent),
+    replay-report c.args.bytes.now lent run tags policies counts flows short e,
+    ap (λ (r : Replay). r.state) e ∙ sym (left-of-replay c.args.bytes.now lent short),
+  )
 
-  abbrev counts : List ℕ
-  counts = c.replay-run.new.counts
+  known : let j = c.if-bytes-gt16384 in Known j.run j.tags j.policies j.counts j.flows
+  known =
+      elim c.if-bytes-gt16384.branch [
+        | then-bytes-gt16384 w ↦
+            rw (w.run-is, w.nothing-run.ensures, w.tags-is, w.policies-is, w.counts-is, w.flows-is) (
+              (omega arith, omega arith),
+              long-report c.args.bytes.now lent c.args.tags.now w.if-bytes-gt16384.true,
+              sym (left-of-long-input c.args.bytes.now lent w.if-bytes-gt16384.true),
+            )
+        | else-bytes-gt16384 w ↦
+            rw (w.run-is, w.tags-is, w.policies-is, w.counts-is, w.flows-is)
+            (let left = w.replay-run.new in
+            replayed w.replay-run.result left.tags left.policies left.counts left.flows
+            (omega (arith, w.if-bytes-gt16384.false)) w.replay-run.ensures)
+      ]
 
-  -- what it gave back
-  abbrev made : Replayed
-  made = c.replay-run.result.replayed
+pub write_report-reply-requires : goal.write_report-reply-requires
+write_report-reply-requires c = (known (goal.at.write_report-reply-requires c).Joined-bytes-gt16384).0
 
-  -- the records stored are as many as there were
-  long : length c.replay-run.result.flows ≤ 512
-  long =
-      let e = stored-length 0 c.replay-run.result.end c.replay-run.result.flows (replicate 512 no_flow) in
-      omega (arith, e, ap length c.replay-run.ensures.stored.0, length-replicate {A = Flow} 512 no_flow)
+pub returns-clause-answer : goal.returns-clause-answer
+returns-clause-answer c =
+    let k = known (goal.at.returns-clause-answer c).Joined-bytes-gt16384 in
+    c.write_report-reply.ensures.answer ∙ ap (λ (t : List ℕ). (write_at c.args.out.now 0 t).answer) k.1
 
-  -- so the run is that on the whole table
-  run : replay_by made tags policies counts c.replay-run.result.flows ≡ replay_of c.args.bytes.now lent
-  run =
-      ap (replay_by made tags policies counts) (sym (take_all 512 c.replay-run.result.flows long))
-      ∙ c.replay-run.ensures.left
-      ∙ ap (λ (fs : List Flow). replay_of c.args.bytes.now (storage_of c.args.tags.now c.args.policies.now c.args.counts.now fs))
-      (take_all 512 (replicate 512 no_flow) (omega (arith, length-replicate {A = Flow} 512 no_flow)))
+pub returns-clause-output : goal.returns-clause-output
+returns-clause-output c =
+    let k = known (goal.at.returns-clause-output c).Joined-bytes-gt16384 in
+    c.write_report-reply.ensures.output ∙ ap (λ (t : List ℕ). (write_at c.args.out.now 0 t).output) k.1
 
-  -- the ranking can be written
-  room : (made.header.containers ≤ 256) × (4 * made.header.containers ≤ length tags)
-  room =
-      subst (λ (r : Replay). (r.state.header.containers ≤ 256) × (4 * r.state.header.containers ≤ length r.state.storage.tags))
-      (sym run) (replay-room c.args.bytes.now lent)
-
-  -- it is not too long
-  short : length c.args.bytes.now ≤ 16384
-  short = omega (arith, c.if-bytes-gt16384.false)
-
-  -- the report is the input's text
-  text : {k : ℕ} → k ≡ ending_of made.ending
-      → report_of made.header.containers tags k made.byte made.events made.gain ≡ text_of c.args.bytes.now lent
-  text e =
-      ap (λ (j : ℕ). report_of made.header.containers tags j made.byte made.events made.gain) e
-      ∙ replay-report c.args.bytes.now lent made tags policies counts c.replay-run.result.flows short run
-
-  -- and what is left is the run's state
-  left : state_of made.header tags policies counts c.replay-run.result.flows ≡ left_of c.args.bytes.now lent
-  left = ap (λ (r : Replay). r.state) run ∙ sym (left-of-replay c.args.bytes.now lent short)
-
-pub returns-then-bytes-gt16384 : goal.returns-then-bytes-gt16384
-returns-then-bytes-gt16384 c =
-    let bytes = c.args.bytes.now in
-    let s : Storage = storage_of c.args.tags.now c.args.policies.now c.args.counts.now (replicate 512 no_flow) in
-    let long : 16384 < length bytes = omega (arith, c.if-bytes-gt16384.true) in
-    let w = wrote c.args.out.now (long-report bytes s c.args.tags.now long) (c.write_report-reply.ensures.answer, c.write_report-reply.ensures.output) in
-    record { answer = w.0; output = w.1; state = sym (left-of-long-input bytes s long) }
-
-pub write_report-reply-requires-2 : goal.write_report-reply-requires-2
-write_report-reply-requires-2 c = room (goal.at.write_report-reply-requires-2 c).After-replay-run
-
-pub returns : goal.returns
-returns c =
-    let x = (goal.at.returns c).After-replay-run in
-    let w = wrote c.args.out.now (text x c.ending_number-number.ensures) (c.write_report-reply-2.ensures.answer, c.write_report-reply-2.ensures.output) in
-    record { answer = w.0; output = w.1; state = left x }
+pub returns-clause-state : goal.returns-clause-state
+returns-clause-state c = (known (goal.at.returns-clause-state c).Joined-bytes-gt16384).2
