@@ -1,4 +1,5 @@
--- Laws of the refusals' numbers: they tell the refusals apart, none is 0, and so they tell the answers apart. Assumes nothing.
+-- Laws of the refusals' numbers: they tell the refusals apart, none is 0, and so they tell the answers apart.
+-- Assumes nothing.
 use Rattle.std.specs.Prelude.{◌≡◌, refl, [], ◌∷◌, ℕ, pred, ◌<◌, get_or, Result, Ok, Err}
 use Rattle.std.proofs.Common.{sym, ap, ◌∙◌, arith}
 use Rattle.refusal.specs.declared.Refusal.{Refusal}

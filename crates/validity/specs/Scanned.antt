@@ -1,5 +1,5 @@
 -- A state of the right lengths is valid exactly where the clauses pass in the order in which the storage is read. Assumes nothing.
-use Rattle.std.specs.Prelude.{◌≡◌, refl, Bool, true, ◌&&◌, not, cond, List, [], ◌∷◌, ◌↔◌, ℕ, ◌+◌, ◌*◌, ◌/◌, ◌%◌, ◌≤◌, ◌<◌, leb, ltb, get_or}
+use Rattle.std.specs.Prelude.{◌≡◌, refl, Bool, true, ◌&&◌, not, cond, List, [], ◌∷◌, ◌↔◌, ℕ, ◌+◌, ◌*◌, ◌/◌, ◌%◌, ◌≤◌, ◌<◌, leb, ltb, get_or, length}
 use Rattle.std.proofs.Common.{sym, ap, ◌∙◌, subst, ⊎_elim, arith, ltb-true, ltb-false}
 use Rattle.std.proofs.lemmas.Bool.{false≢true, not-false}
 use Rattle.std.specs.List.{list_all, range_with_len}
@@ -27,18 +27,34 @@ use Rattle.validity.specs.Scan.{policies_valid, containers_valid, flow_valid, fl
 
 -- Tests, each with what it says
 
+-- four tests one by one, after another
+pub four : (b : Bool) (f : ℕ → Bool) → b && f 0 && f 1 && f 2 && f 3 ≡ b && all_below 4 f
+unfolding all_below
+four b f = grind arith
+
 -- a test of each number of a range, where it says the same as another below n
-pub all-range : (n : ℕ) (p q : ℕ → Bool) → ((k : ℕ) → k < n → p k ≡ q k) → list_all p (range_with_len 0 n) ≡ all_below n q
-all-range n p q same =
-    iff (list_all p ns) (all_below n q)
-    (λ e. all-make n q (λ k l. sym (at k l) ∙ and_at (list_all p) p refl (λ x xs. refl) ns k 0 (omega (arith, l, length-range_with_len 0 n)) e))
-    (λ e. and_from_places (list_all p) p refl (λ x xs. refl) ns 0 (λ k l. let m : k < n = omega (arith, l, length-range_with_len 0 n) in at k m ∙ all-at n q e k m))
+pub all-range : (n : ℕ) (p q : ℕ → Bool) → ((k : ℕ) → k < n → p k ≡ q k)
+    → list_all p (range_with_len 0 n) ≡ all_below n q
+all-range n p q same = iff (list_all p ns) (all_below n q) fore back
   where
     ns : List ℕ
     ns = range_with_len 0 n
 
+    long : length ns ≡ n
+    long = length-range_with_len 0 n
+
     at : (k : ℕ) → k < n → p (get_or ns k 0) ≡ q k
     at k l = let e : get_or ns k 0 ≡ k = get_or-range_with_len 0 n k 0 l ∙ omega arith in ap p e ∙ same k l
+
+    fore : list_all p ns ≡ true → all_below n q ≡ true
+    fore e =
+        all-make n q
+        (λ k l. sym (at k l) ∙ and_at (list_all p) p refl (λ x xs. refl) ns k 0 (omega (arith, l, long)) e)
+
+    back : all_below n q ≡ true → list_all p ns ≡ true
+    back e =
+        and_from_places (list_all p) p refl (λ x xs. refl) ns 0
+        (λ k l. let m : k < n = omega (arith, l, long) in at k m ∙ all-at n q e k m)
 
 -- every tag of a set is below n
 known-iff : (s : TagSet) (n : ℕ) → (subset_of s (below_of n) ≡ true) ↔ ((t : ℕ) → has s t ≡ true → t < n)

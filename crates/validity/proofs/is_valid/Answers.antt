@@ -1,6 +1,6 @@
 -- `is_valid` meets its contract: the clauses in the order in which the storage is read are those of a valid state, and the first that fails decides.
 -- Assumes nothing.
-use Rattle.std.proofs.Common.{◌≡◌, ◌&&◌, ◌∙◌, refl, sym, ◌+◌, ◌-◌, arith, rules, tests, le-leb, drop, take, List}
+use Rattle.std.proofs.Common.{Bool, ◌≡◌, ◌&&◌, ◌∙◌, refl, sym, ◌+◌, ◌-◌, arith, rules, tests, le-leb, drop, take, List}
 use Rattle.std.proofs.lemmas.Bool.{false≢true}
 use Rattle.std.specs.List.{list_all}
 use Rattle.std.proofs.lemmas.List.{drop-take}
@@ -16,10 +16,10 @@ use Rattle.validity.specs.Scanned.{scanned}
 use Rattle.validity.proofs.is_valid.Goals as goal
 use Rattle.validity.proofs.is_valid.Goals.{then-containers_valid, else-containers_valid}
 
--- every record is zero
-zeros : (fs : List Flow) → list_all is_no_flow fs ≡ all_of is_no_flow fs
+-- every element passes, in the library's word
+all-passes : (p : Flow → Bool) (fs : List Flow) → list_all p fs ≡ all_of p fs
 unfolding all_of
-zeros fs = same_from_clauses (list_all is_no_flow) (all_of is_no_flow) (λ f b. is_no_flow f && b) refl (λ _ _. refl) (λ _ _. refl) fs
+all-passes p fs = same_from_clauses (list_all p) (all_of p) (λ f b. p f && b) refl (λ _ _. refl) (λ _ _. refl) fs
 
 pub returns-then-t-gt512 : goal.returns-then-t-gt512
 returns-then-t-gt512 c =
@@ -33,8 +33,9 @@ returns-then-flows_valid c =
     let whole : t.header.count + (512 - t.header.count) ≡ 512 = omega arith in
     let unused = rw whole at (drop-take t.header.count (512 - t.header.count) t.flows.now) in
     let told =
-    all_from_yields_List is_no_flow _ _ _ c.all.ensures.ran (YieldsList-from_slice _ (c.iter.ensures.rest ∙ sym unused)) (λ x b q k. search (rules, tests))
-    ∙ zeros (drop t.header.count (take 512 t.flows.now)) in
+    all_from_yields_List is_no_flow _ _ _ c.all.ensures.ran (YieldsList-from_slice _ (c.iter.ensures.rest ∙ sym unused))
+    (λ x b q k. search (rules, tests))
+    ∙ all-passes is_no_flow (drop t.header.count (take 512 t.flows.now)) in
     elim c.if-containers_valid.branch [
       | then-containers_valid w ↦
           simp (
@@ -43,9 +44,11 @@ returns-then-flows_valid c =
             sym c.containers_valid.ensures.valid ∙ w.if-containers_valid.true,
             sym w.flows_valid.ensures ∙ sym w.value-is ∙ c.if-flows_valid.true,
           ) told
-      | else-containers_valid w ↦ absurd (false≢true (sym w.if-containers_valid.false ∙ sym w.value-is ∙ c.if-flows_valid.true))
+      | else-containers_valid w ↦
+          absurd (false≢true (sym w.if-containers_valid.false ∙ sym w.value-is ∙ c.if-flows_valid.true))
     ]
 
 pub returns-else-flows_valid : goal.returns-else-flows_valid
 unfolding flows_of
-returns-else-flows_valid c = grind (rules, tests, scanned (state_in c.args.t.now) c.requires c.containers_valid.ensures.words)
+returns-else-flows_valid c =
+    grind (rules, tests, scanned (state_in c.args.t.now) c.requires c.containers_valid.ensures.words)

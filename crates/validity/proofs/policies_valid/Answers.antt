@@ -1,27 +1,19 @@
--- `policies_valid` meets its contract: it tests each of the four places, which the words have. Assumes nothing.
-use Rattle.std.proofs.Common.{◌∙◌, ◌+◌, ◌*◌, refl, arith, rules, tests, cond, ltb, ap, le-leb}
-use Rattle.std.proofs.lemmas.Bool.{lt-leb}
-use Rattle.std.proofs.lemmas.Iterator.{YieldsList-from_range}
-use Rattle.std.proofs.lemmas.Iterator.Search.{all_from_yields_List}
-use Rattle.tagset.specs.declared.TagSet.{TagSet}
+-- `policies_valid` meets its contract: it tests each of the four places. Assumes nothing.
+use Rattle.std.proofs.Common.{◌&&◌, ◌∙◌, ◌+◌, ◌*◌, ap, ap₂, arith, cond, ltb, leb}
 use Rattle.tagset.specs.Set.{empty_set, subset_of}
-use Rattle.tagstore.specs.Store.{load_of}
-use Rattle.tagstore.specs.Laws.{load-whole}
+use Rattle.state.specs.State.{set_at}
 use Rattle.validity.specs.Scan.{policies_valid}
-use Rattle.validity.specs.Scanned.{all-range}
+use Rattle.validity.specs.Scanned.{four}
 use Rattle.validity.proofs.policies_valid.Goals as goal
-
-pub returns-then-count-gt4 : goal.returns-then-count-gt4
-unfolding policies_valid
-returns-then-count-gt4 c =
-    simp (lt-leb c.args.count 4 (omega arith)) refl
 
 pub returns : goal.returns
 unfolding policies_valid
 returns c =
     let a = c.args in
-    let each =
-    all_from_yields_List (λ k. subset_of (load_of a.policies.now (4 * a.c + k)) (cond (ltb k a.count) a.known empty_set)) _ _ _ c.all.ensures.ran
-    (YieldsList-from_range 0 4 4 refl refl) (λ x b q k. search (rules, tests)) in
-    let places = each ∙ all-range 4 _ _ (λ k l. ap (λ (s : TagSet). subset_of s (cond (ltb k a.count) a.known empty_set)) (load-whole a.policies.now (4 * a.c + k) (omega (arith, l)))) in
-    simp (le-leb c.args.count 4 (omega arith)) places
+    let set = set_at a.policies.now in
+    let first = c.is_subset.ensures ∙ ap₂ subset_of (c.set_at.ensures ∙ ap set (omega arith)) c.allowed.ensures in
+    let second = c.is_subset-2.ensures ∙ ap₂ subset_of c.set_at-2.ensures c.allowed-2.ensures in
+    let third = c.is_subset-3.ensures ∙ ap₂ subset_of c.set_at-3.ensures c.allowed-3.ensures in
+    let fourth = c.is_subset-4.ensures ∙ ap₂ subset_of c.set_at-4.ensures c.allowed-4.ensures in
+    (λ i. leb a.count 4 && first i && second i && third i && fourth i)
+    ∙ four (leb a.count 4) (λ k. subset_of (set (4 * a.c + k)) (cond (ltb k a.count) a.known empty_set))
