@@ -1,9 +1,10 @@
 -- Laws of questions: when a container is legal, which policy sets it has, what is answered and what is refused. Assumes nothing.
-use Rattle.std.specs.Prelude.{◌≡◌, Bool, ◌↔◌, length}
+use Rattle.std.specs.Prelude.{◌≡◌, Bool, ◌||◌, ◌↔◌, ◌+◌, length, pred, Result, Ok, Err}
 use Rattle.std.proofs.Math.Path.{refl}
-use Rattle.std.proofs.Common.{sym, ap, ◌∙◌, le-leb}
+use Rattle.std.proofs.Common.{sym, ap, ap₂, ◌∙◌, le-leb}
 use Rattle.std.proofs.Math.Bool.{true, false}
 use Rattle.std.proofs.lemmas.Bool.{false≢true, lt-leb}
+use Rattle.std.specs.List.{list_any, range_with_len}
 use mathlib.Core.List.Memᴰ
 use mathlib.Core.List.{List, [], ◌∷◌}
 use Rattle.std.proofs.Math.Logic.{⊎_elim, by_cases}
@@ -11,7 +12,10 @@ use Prim.Native.Nat.{ℕ, zero, suc, ◌≤◌, ◌<◌}
 use Rattle.std.proofs.Math.Decide.{dec_lt}
 use native.Mathlib.Omega.{arith}
 use borrow.Table.Steps.{cases}
+use Rattle.refusal.specs.declared.Refusal.{Refusal}
+use Rattle.refusal.specs.Number.{number_of, refusal_of}
 use Rattle.refusal.specs.Order.{first_of}
+use Rattle.refusal.proofs.Number.{number-positive}
 use Rattle.refusal.proofs.Order.{by_rows}
 use Rattle.truth.specs.Truth.{or-either, left_or, right_or}
 use Rattle.model.specs.Model.{◌∈◌}
@@ -24,7 +28,7 @@ use Rattle.state.specs.IsValid.{IsSized, IsValid, Usable}
 use Rattle.state.proofs.IsValid.{subset_iff}
 use Rattle.state.proofs.Judging.{by_state, short-first, invalid-first, usable-first}
 use Rattle.question.specs.Question.{Asked, question_later, question_order, asked, tags_of, size_asked, any_of, policies_of, is_legal, legal_of}
-use Rattle.question.specs.Replies.{told, untold}
+use Rattle.question.specs.Replies.{told, untold, asked_by}
 
 -- LISTS
 
@@ -73,6 +77,15 @@ module _ {A : Type 0} where
       absurd (false≢true (sym (h m.0 m.1) ∙ ap p (sym m.2) ∙ w.2)))
       (λ e. e)
 
+  -- a test of each number of a range, where it says the same of number k as another of value k
+  pub any-range : (p : A → Bool) (n a : ℕ) (f : ℕ → A) (q : ℕ → Bool) → ((i k : ℕ) → i < n → k ≡ a + i → q k ≡ p (f i))
+      → list_any q (range_with_len a n) ≡ any_of p (tabulate n f)
+  unfolding any_of tabulate
+  any-range p zero a f q same = refl
+  any-range p (suc n) a f q same =
+      ap₂ (λ (x y : Bool). x || y) (same 0 a (omega arith) (omega arith))
+      (any-range p n (a + 1) (λ i. f (suc i)) q (λ i k l e. same (suc i) k (omega (arith, l)) (omega (arith, e))))
+
 -- LEGAL CONTAINERS
 
 -- document 001: 'legal if and only if its information tag [..] is included in at least one of the sets of its policy tag [..]'
@@ -106,6 +119,11 @@ no-policy-not-legal s c e =
 
 -- WHAT IS ANSWERED AND WHAT IS REFUSED
 
+-- an answer's number is its refusal's
+pub asked-by-number : {A : Type 0} (none : A) (q : Result A Refusal) → (asked_by none q).refusal ≡ refusal_of q
+asked-by-number none (Ok v) = refl
+asked-by-number none (Err q) = refl
+
 module _ {A : Type 0} (none value : A) where
   -- the number of the answer is the one that was decided on
   pub asked-number : (r : ℕ) → (asked r none value).refusal ≡ r
@@ -122,6 +140,12 @@ module _ {A : Type 0} (none value : A) where
   pub asked-untold : (r k : ℕ) → r ≡ suc k → asked r none value ≡ untold none (suc k)
   unfolding asked
   asked-untold r k e = rw e refl
+
+  -- a refusal's: it is not
+  pub asked-refused : (r : ℕ) (q : Refusal) → r ≡ number_of q → asked r none value ≡ asked_by none (Err q)
+  asked-refused r q e =
+      let k : suc (pred (number_of q)) ≡ number_of q = omega (arith, number-positive q) in
+      rw k at (asked-untold r (pred (number_of q)) (e ∙ sym k))
 
   -- the value of an answer is the one asked for
   value-told : (r : ℕ) → (asked r none value).refusal ≡ 0 → (asked r none value).value ≡ value

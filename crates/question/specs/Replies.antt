@@ -1,5 +1,5 @@
--- What the answers to questions stand for, in the paper's numbers: a refusal answers the empty set, the size 0, no. Its law: proofs/Replies.antt.
--- Assumes nothing.
+-- What the answers to questions stand for, in the paper's numbers: a refusal answers the empty set, the size 0, no. Its
+-- law: proofs/Replies.antt. Assumes nothing.
 use Rattle.std.specs.Prelude.{ℕ, Result, Ok, Err}
 use Rattle.refusal.specs.declared.Refusal.{Refusal}
 use Rattle.refusal.specs.Number.{number_of}

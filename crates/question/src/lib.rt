@@ -1,4 +1,5 @@
-// The questions about a container: its tag set, the set's size, whether it may be sent. What each answers stands in specs/Question.antt.
+// The questions about a container: its tag set, the set's size, whether it may be sent. What each answers stands in
+// specs/Question.antt.
 // A question changes nothing, and answers for every content and length of lent storage.
 #![tactic(auto)]
 

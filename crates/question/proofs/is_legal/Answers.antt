@@ -1,68 +1,45 @@
 -- `is_legal` meets its contract: what is found decides between the refusals and the search of the policy sets. A usable state has their count and
 -- their words. Assumes nothing.
-use mathlib.Core.Bool.{false}
-use mathlib.Core.Path.{◌≡◌, sym, ap, ◌∙◌}
-use Prim.Native.Nat.{ℕ, suc}
-use native.Mathlib.Omega.{arith}
-use lib.ListN.{take}
-use Rattle.refusal.specs.Order.{first_of}
+use Rattle.std.proofs.Common.{◌≡◌, false, Ok, Err, sym, ap, ◌∙◌, arith, rules}
 use Rattle.tagset.specs.declared.TagSet.{TagSet}
 use Rattle.tagset.specs.Set.{subset_of}
-use Rattle.state.specs.State.{State, state_of}
-use Rattle.question.specs.Question.{question_order, any_of, policies_of, is_legal, legal_of}
-use Rattle.question.specs.Replies.{told, untold}
-use Rattle.question.specs.Laws.{asked-told, asked-untold, answered-state}
+use Rattle.state.specs.State.{state_in}
+use Rattle.question.specs.Question.{any_of, policies_of, is_legal, legal_of}
+use Rattle.question.specs.Replies.{told, asked_by}
+use Rattle.question.specs.Laws.{asked-told, asked-refused, answered-state}
 use Rattle.question.specs.Finding.{found_number, found-set}
 use Rattle.question.proofs.is_legal.Goals as goal
-use Rattle.question.proofs.is_legal.Goals.{Start}
 
--- the state that is asked about
-abbrev at : Start → State
-at c = let a = c.args in state_of a.header a.tags.now a.policies.now a.counts.now (take a.lent a.flows)
-
--- a refusal tells no
-refuses : (s : State) (c k : ℕ) → first_of (question_order s c) 0 ≡ suc k → untold false (suc k) ≡ legal_of s c
+pub returns-in_err-set : goal.returns-in_err-set
 unfolding legal_of
-refuses s c k e = sym (asked-untold false (is_legal s c) (first_of (question_order s c) 0) k e)
-
-pub returns-in-BadSize : goal.returns-in-BadSize
-returns-in-BadSize c =
-    let s = at (goal.at.returns-in-BadSize c).Start in
-    refuses s c.args.container 8 (found_number s c.args.container c.tags_of-found.result c.tags_of-found.ensures c.in-BadSize.is)
-
-pub returns-in-InvalidState : goal.returns-in-InvalidState
-returns-in-InvalidState c =
-    let s = at (goal.at.returns-in-InvalidState c).Start in
-    refuses s c.args.container 11 (found_number s c.args.container c.tags_of-found.result c.tags_of-found.ensures c.in-InvalidState.is)
-
-pub returns-in-NoSuchContainer : goal.returns-in-NoSuchContainer
-returns-in-NoSuchContainer c =
-    let s = at (goal.at.returns-in-NoSuchContainer c).Start in
-    refuses s c.args.container 3 (found_number s c.args.container c.tags_of-found.result c.tags_of-found.ensures c.in-NoSuchContainer.is)
-
-pub bounds-counts-c : goal.bounds-counts-c
-bounds-counts-c c =
-    let s = at (goal.at.bounds-counts-c c).Start in
+returns-in_err-set c =
+    let s = state_in c.args.t.now in
     let k = c.args.container in
-    let z = answered-state s k (found_number s k c.tags_of-found.result c.tags_of-found.ensures c.in-Fine.is) in
+    let q = c.in_err-set.field-0.0 in
+    let is : c.from_residual.result ≡ Err q = search rules in
+    ap (asked_by false) is
+    ∙ sym (asked-refused false (is_legal s k) _ q (found_number s k (Err q) c.in_err-set.ensures))
+
+pub bounds-t-c : goal.bounds-t-c
+bounds-t-c c =
+    let s = state_in c.args.t.now in
+    let k = c.args.container in
+    let z = answered-state s k (found_number s k (Ok c.in_ok-set.set) c.in_ok-set.ensures) in
     omega (arith, z.0.sized.count-bytes, z.1)
 
 pub some_allows-requires : goal.some_allows-requires
 some_allows-requires c =
-    let s = at (goal.at.some_allows-requires c).Start in
+    let s = state_in c.args.t.now in
     let k = c.args.container in
-    let z = answered-state s k (found_number s k c.tags_of-found.result c.tags_of-found.ensures c.in-Fine.is) in
+    let z = answered-state s k (found_number s k (Ok c.in_ok-set.set) c.in_ok-set.ensures) in
     (z.0.valid.policy-counts k z.1, omega (arith, z.0.sized.policy-words, z.1))
 
-pub returns-in-Fine : goal.returns-in-Fine
+pub returns : goal.returns
 unfolding legal_of is_legal policies_of
-returns-in-Fine c =
-    let s = at (goal.at.returns-in-Fine c).Start in
+returns c =
+    let s = state_in c.args.t.now in
     let k = c.args.container in
-    let fine = found_number s k c.tags_of-found.result c.tags_of-found.ensures c.in-Fine.is in
-    ap told
-    (
-    c.some_allows.ensures
-    ∙ ap (λ (t : TagSet). any_of (subset_of t) (policies_of s k)) (found-set s k c.tags_of-found.result c.tags_of-found.ensures fine)
-    )
-    ∙ sym (asked-told false (is_legal s k) (first_of (question_order s k) 0) fine)
+    let set = c.in_ok-set.set in
+    let found = found-set s k set c.in_ok-set.ensures in
+    ap told (c.some_allows.ensures ∙ ap (λ (t : TagSet). any_of (subset_of t) (policies_of s k)) found)
+    ∙ sym (asked-told false (is_legal s k) _ (found_number s k (Ok set) c.in_ok-set.ensures))
