@@ -1,6 +1,6 @@
 -- The laws of sets of tags: members, the order, what is equal, the bounds of words, and sizes.
 -- Assumes nothing.
-use Rattle.std.specs.Prelude.{◌≡◌, refl, Bool, true, false, ◌&&◌, ◌||◌, not, ◌↔◌, List, [], ◌∷◌, ℕ, suc, ◌+◌, ◌*◌, ◌-◌, ◌/◌, ◌%◌, ◌^◌, ◌≤◌, ◌<◌, min, eqb, ltb, leb, get_or, set}
+use Rattle.std.specs.Prelude.{◌≡◌, refl, Bool, true, false, ◌&&◌, ◌||◌, not, ◌↔◌, List, [], ◌∷◌, ℕ, suc, ◌+◌, ◌*◌, ◌-◌, ◌/◌, ◌%◌, ◌^◌, ◌≤◌, ◌<◌, min, eqb, ltb, leb, get_or, set, sum_by}
 use Rattle.std.proofs.Common.{sym, ap, ap₂, ◌∙◌, ⊎_elim, mod-lt, lt_of_lt_of_le, not-le_of_lt, zero-add, arith, lit<, pow_mono, get_or-set_other, ext_get_or, eqb-true, eq-eqb, ne_eqb, ltb-true, ltb-false, leb-true, leb-false, lt-ltb, le-ltb, le-leb}
 use Rattle.std.specs.Bool.{beq}
 use Rattle.std.proofs.Math.Bool.{and-true, and-false, and_comm}
@@ -18,7 +18,7 @@ use Rattle.tagset.proofs.Below.{count-cong, count_add, count-sum, count_none, no
 use Rattle.tagset.proofs.Bit.{bit-zero, bit-or, bit-and, bit-pow, bit-ones, ones-count}
 use Rattle.tagset.specs.Set.{one, count_below, bit_at, word_at, has_w, has, empty_set, single_of, low_ones, below_of, wordwise, union_of, intersection_of, implies, subset_of, same_of, exceeds_of, size_of, IsWords}
 use Rattle.tagset.specs.Word.{zeros}
-use Rattle.tagset.proofs.Word.{each_word, word-near, word-far, tag_at, by-tag, word_fits, wordwise-has, beq-true, beq-self, same-words}
+use Rattle.tagset.proofs.Word.{each_word, four-made, word-near, word-far, tag_at, by-tag, word_fits, wordwise-has, beq-true, beq-self, same-words}
 use Rattle.tagset.specs.Laws.{beyond}
 
 -- Members
@@ -186,7 +186,7 @@ everywhere : (a b : TagSet) → ((t : ℕ) → t < 256 → has a t ≡ has b t) 
 everywhere a b h t =
     cases (ltb t 256) (λ l. h t (ltb-true t 256 l)) (λ l. has-far a t (ltb-false t 256 l) ∙ sym (has-far b t (ltb-false t 256 l)))
 
--- sets that `equals` finds the same have the same tags
+-- sets that are found the same have the same tags
 pub same-has : (a b : TagSet) → same_of a b ≡ true → (t : ℕ) → has a t ≡ has b t
 unfolding same_of
 same-has a b e = everywhere a b (λ t l. beq-true (has a t) (has b t) (all-at 256 (λ t. beq (has a t) (has b t)) e t l))
@@ -338,6 +338,13 @@ size-words s h =
   where
     sum : ℕ → ℕ → ℕ
     sum x y = x + y
+
+-- the sum over the list of words
+pub size-sum : (s : TagSet) → IsWords s → size_of s ≡ sum_by ones s.words
+size-sum s h =
+    size-words s h
+    ∙ ap (λ (n : ℕ). n + ones (get_or s.words 1 0) + ones (get_or s.words 2 0) + ones (get_or s.words 3 0)) (sym (zero-add (ones (get_or s.words 0 0))))
+    ∙ sym (ap (λ (t : TagSet). sum_by ones t.words) (four-made s h.four refl refl refl refl))
 
 -- a set has at most 256 tags
 pub size-le : (s : TagSet) → size_of s ≤ 256

@@ -1,4 +1,5 @@
 pub mod Below
 pub mod Bit
 pub mod Laws
+pub mod Equal
 pub mod Word

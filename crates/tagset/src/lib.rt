@@ -1,11 +1,13 @@
 // Sets of tags below 256, by value: tag t is bit t % 64 of word t / 64.
 #![tactic(auto)]
 
-ghost use Rattle.std.specs.Prelude.{◌≡◌, ◌-◌};
-ghost use Rattle.tagset.specs.Set.{has, empty_set, single_of, low_ones, below_of, union_of, intersection_of, subset_of, same_of, exceeds_of, size_of};
+ghost use Rattle.std.specs.Prelude.{◌≡◌, ◌-◌, ◌<◌, ℕ, get_or};
+ghost use Rattle.tagset.specs.Set.{has, empty_set, single_of, low_ones, below_of};
+ghost use Rattle.tagset.specs.Set.{union_of, intersection_of, subset_of, exceeds_of, size_of};
 
+// Two sets are equal where they have the same tags (proofs/Equal.antt).
 #[repr(C)]
-#[derive(Clone, Copy)]
+#[derive(Clone, Copy, Debug, PartialEq, Eq)]
 pub struct TagSet {
     pub words: [u64; 4],
 }
@@ -22,13 +24,11 @@ impl TagSet {
     pub fn single(tag: u32) -> TagSet
         ensures { result ≡ single_of tag }
     {
-        let mut w = [0u64; 4];
+        let mut words = [0; 4];
         if tag < 256 {
-            let i = (tag / 64) as usize;
-            w[i] = 1u64 << (tag % 64);
-            return TagSet { words: w };
+            words[(tag / 64) as usize] = 1 << (tag % 64);
         }
-        TagSet { words: w }
+        TagSet { words }
     }
 
     // The tags below n.
@@ -36,12 +36,7 @@ impl TagSet {
         ensures { result ≡ below_of n }
     {
         TagSet {
-            words: [
-                low_ones(n, 0),
-                low_ones(n, 64),
-                low_ones(n, 128),
-                low_ones(n, 192),
-            ],
+            words: [0, 64, 128, 192].map(|first| low_ones(n, first)),
         }
     }
 
@@ -49,61 +44,33 @@ impl TagSet {
     pub fn contains(self, tag: u32) -> bool
         ensures { result ≡ has self tag }
     {
-        if tag >= 256 {
-            return false;
+        match self.words.get((tag / 64) as usize) {
+            Some(word) => (word >> (tag % 64)) & 1 == 1,
+            None => false,
         }
-        let i = (tag / 64) as usize;
-        let w = self.words[i];
-        (w >> (tag % 64)) & 1 == 1
     }
 
     // The tags of both sets together.
     pub fn union(self, other: TagSet) -> TagSet
         ensures { result ≡ union_of self other }
     {
-        TagSet {
-            words: [
-                self.words[0] | other.words[0],
-                self.words[1] | other.words[1],
-                self.words[2] | other.words[2],
-                self.words[3] | other.words[3],
-            ],
-        }
+        self.each(other, |a, b| a | b)
     }
 
     // The part of this set that lies in the other.
     pub fn intersection(self, other: TagSet) -> TagSet
         ensures { result ≡ intersection_of self other }
     {
-        TagSet {
-            words: [
-                self.words[0] & other.words[0],
-                self.words[1] & other.words[1],
-                self.words[2] & other.words[2],
-                self.words[3] & other.words[3],
-            ],
-        }
+        self.each(other, |a, b| a & b)
     }
 
-    // Whether every tag of this set is in the other: whether nothing is left of its words without what both have. The four words are tested as one.
+    // Whether every tag of this set is in the other: whether nothing is left of its words without those of the other.
+    // The four words are tested as one: tested one by one, or as a set, they take half as long again where most pass.
     pub fn is_subset(self, other: TagSet) -> bool
         ensures { result ≡ subset_of self other }
     {
-        let a = self.words[0] - (self.words[0] & other.words[0]);
-        let b = self.words[1] - (self.words[1] & other.words[1]);
-        let c = self.words[2] - (self.words[2] & other.words[2]);
-        let d = self.words[3] - (self.words[3] & other.words[3]);
+        let [a, b, c, d] = self.each(other, |a, b| a & !b).words;
         a | b | c | d == 0
-    }
-
-    // Whether both sets have the same tags.
-    pub fn equals(self, other: TagSet) -> bool
-        ensures { result ≡ same_of self other }
-    {
-        (self.words[0] == other.words[0])
-            & (self.words[1] == other.words[1])
-            & (self.words[2] == other.words[2])
-            & (self.words[3] == other.words[3])
     }
 
     // Whether some tag of the set is n or more.
@@ -117,10 +84,18 @@ impl TagSet {
     pub fn size(self) -> u32
         ensures { result ≡ size_of self }
     {
-        u64::count_ones(self.words[0])
-            + u64::count_ones(self.words[1])
-            + u64::count_ones(self.words[2])
-            + u64::count_ones(self.words[3])
+        self.words.iter().map(|word| word.count_ones()).sum()
+    }
+
+    // The set that the function makes of the words of both, each with the one in its place.
+    fn each<F: Fn(u64, u64) -> u64 + Drop>(self, other: TagSet, f: F) -> TagSet
+        requires { F.IsAlwaysCallable f }
+        ensures { (i : ℕ) → i < 4
+            → F.post f (get_or self.words i 0) (get_or other.words i 0) (get_or result.words i 0) }
+    {
+        TagSet {
+            words: std::array::from_fn(|i| f(self.words[i], other.words[i])),
+        }
     }
 }
 
@@ -133,7 +108,7 @@ fn low_ones(n: u32, first: u32) -> u64
     }
     let k = n - first;
     if 64 <= k {
-        return 18446744073709551615;
+        return u64::MAX;
     }
-    (1u64 << k) - 1
+    (1 << k) - 1
 }

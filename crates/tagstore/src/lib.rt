@@ -13,12 +13,9 @@ use tagset::TagSet;
 pub fn load_set(words: &[u64], k: usize) -> TagSet
     ensures { result ≡ load_of words.now k }
 {
-    if words.len() / 4 <= k {
-        return TagSet::empty();
-    }
-    let b = 4 * k;
-    TagSet {
-        words: [words[b], words[b + 1], words[b + 2], words[b + 3]],
+    match words.as_chunks().0.get(k) {
+        Some(words) => TagSet { words: *words },
+        None => TagSet::empty(),
     }
 }
 
@@ -26,14 +23,14 @@ pub fn load_set(words: &[u64], k: usize) -> TagSet
 pub fn store_set(words: &mut [u64], k: usize, s: TagSet)
     ensures { words.new ≡ store_of words.old k s }
 {
-    if words.len() / 4 <= k {
-        return;
+    // One word after the other: copied as a slice, or in a loop, a set takes up to twice the time.
+    if k < words.len() / 4 {
+        let b = 4 * k;
+        words[b] = s.words[0];
+        words[b + 1] = s.words[1];
+        words[b + 2] = s.words[2];
+        words[b + 3] = s.words[3];
     }
-    let b = 4 * k;
-    words[b] = s.words[0];
-    words[b + 1] = s.words[1];
-    words[b + 2] = s.words[2];
-    words[b + 3] = s.words[3];
 }
 
 // Gives each of the first n containers that the words have its own tag alone; past the 256th, no tag.

@@ -1,5 +1,5 @@
 -- `low_ones` meets its contract: no ones, all 64, or as many as n - first says. Assumes nothing.
-use Rattle.tagset.proofs.Word.{low-none, low-all, low-some, shifted-pos}
+use Rattle.tagset.proofs.Word.{low-none, low-all, low-some}
 use Rattle.tagset.proofs.low_ones.Goals as goal
 
 pub returns-then-n-first : goal.returns-then-n-first
@@ -9,10 +9,6 @@ returns-then-n-first c =
 pub returns-then-k-ge64 : goal.returns-then-k-ge64
 returns-then-k-ge64 c =
     low-all _ c.if-k-ge64.true
-
-pub overflow_sub-result : goal.overflow_sub-result
-overflow_sub-result c =
-    shifted-pos _ c.if-k-ge64.false
 
 pub returns : goal.returns
 returns c =

@@ -1,16 +1,47 @@
--- Out of range by the first test; otherwise the four words are read. Assumes nothing.
-use mathlib.Core.Path.{refl}
-use borrow.Author.Tests.{le-leb, lt-leb}
+-- Set k is the k-th four of the words, where they have it whole. Assumes nothing.
+use Rattle.std.specs.Prelude.{◌≡◌, refl, List, [], ℕ, zero, suc, ◌+◌, ◌*◌, ◌/◌, ◌≤◌, ◌<◌, length, get_or, take, drop}
+use Rattle.std.proofs.Common.{sym, ap, ◌∙◌, arith, lit<, not-suc-le-zero, le_of_suc-le-suc, add-zero, length-take-le, get_or-drop, ltb-false}
+use Rattle.std.proofs.lemmas.List.{drop-drop, get_or-take, length-drop}
+use Rattle.std.proofs.lemmas.Bool.{le-leb, lt-leb}
+use Rattle.std.specs.Simd.{first_chunks}
+use Rattle.tagset.specs.declared.TagSet.{TagSet}
+use Rattle.tagset.proofs.Word.{four-made}
 use Rattle.state.specs.State.{set_at}
 use Rattle.tagstore.specs.Store.{load_of}
 use Rattle.tagstore.proofs.load_set.Goals as goal
 
-pub returns-then-words-k : goal.returns-then-words-k
-unfolding load_of
-returns-then-words-k c =
-    simp (le-leb _ _ c.if-words-k.true) c.empty.ensures
+-- the k-th four of the words
+four_at : (n k : ℕ) (ws d : List ℕ) → k < n → get_or (first_chunks 4 n ws) k d ≡ take 4 (drop (4 * k) ws)
+four_at zero k ws d h = absurd (not-suc-le-zero h)
+four_at (suc n) zero ws d h = refl
+four_at (suc n) (suc k) ws d h =
+    let e : 4 + 4 * k ≡ 4 * suc k = omega arith in
+    four_at n k (drop 4 ws) d (le_of_suc-le-suc h) ∙ ap (take 4) (drop-drop (4 * k) 4 ws ∙ ap (λ (j : ℕ). drop j ws) e)
 
-pub returns : goal.returns
-unfolding load_of set_at
-returns c =
-    simp (lt-leb _ _ c.if-words-k.false) refl
+-- is set k
+set_of : (ws : List ℕ) (k : ℕ) → 4 * k + 4 ≤ length ws → record { words = take 4 (drop (4 * k) ws) } ≡ set_at ws k
+unfolding set_at
+set_of ws k h =
+    four-made (record { words = take 4 (drop (4 * k) ws) }) (length-take-le 4 (drop (4 * k) ws) (omega (arith, length-drop (4 * k) ws)))
+    (word 0 (lit< tt) ∙ ap (λ (j : ℕ). get_or ws j 0) (add-zero (4 * k))) (word 1 (lit< tt)) (word 2 (lit< tt)) (word 3 (lit< tt))
+  where
+    word : (j : ℕ) → j < 4 → get_or (take 4 (drop (4 * k) ws)) j 0 ≡ get_or ws (4 * k + j) 0
+    word j l = get_or-take 4 (drop (4 * k) ws) j 0 l ∙ get_or-drop (4 * k) ws j 0
+
+pub returns-in-Some : goal.returns-in-Some
+unfolding load_of
+returns-in-Some c =
+    let ws = c.args.words.now in
+    let k = c.args.k in
+    let found = c.in-Some.ensures.lookup in
+    let inside : k < length ws / 4 = omega (arith, found.3.0) in
+    simp (lt-leb _ _ inside)
+    (ap {B = TagSet} (λ (l : List ℕ). record { words = l })
+    (found.3.1 [] ∙ ap (λ (l : List (List ℕ)). get_or l k []) c.as_chunks.ensures.front ∙ four_at (length ws / 4) k ws [] inside)
+    ∙ set_of ws k (omega arith))
+
+pub returns-in-None : goal.returns-in-None
+unfolding load_of
+returns-in-None c =
+    let outside : length c.args.words.now / 4 ≤ c.args.k = omega (arith, ltb-false _ _ (sym c.in-None.ensures.lookup.0)) in
+    simp (le-leb _ _ outside) c.empty.ensures

@@ -1,8 +1,11 @@
 -- `below` meets its contract: its words are the answers of `low_ones`. Assumes nothing.
-use Rattle.tagset.proofs.Word.{below-made}
+use Rattle.std.proofs.Common.{rules}
+use Rattle.std.proofs.Math.Nat.{sub-zero}
+use Rattle.tagset.specs.Set.{below_of}
+use Rattle.tagset.proofs.Word.{four-made}
 use Rattle.tagset.proofs.TagSet.below.Goals as goal
 
 pub returns : goal.returns
+unfolding below_of
 returns c =
-    below-made _ c.low_ones.ensures c.low_ones-2.ensures
-    c.low_ones-3.ensures c.low_ones-4.ensures
+    four-made (record { words = c.map.result }) (search rules) (rw (← sub-zero c.args.n) (search rules)) (search rules) (search rules) (search rules)
