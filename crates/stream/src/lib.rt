@@ -2,106 +2,63 @@
 // read that fails, and a line on standard error says what failed.
 //
 // Of a reader whose bytes are known the contracts say which it gave; which bytes a file or standard input brings and a
-// write takes no contract can say.
+// write takes no contract can say. What writes answers Ok only where all of it came, and else a beginning, perhaps
+// nothing, came.
 #![tactic(auto)]
 
-ghost use Rattle.std.specs.Prelude.{◌≡◌, map, ◌-◌, ◌<◌, ◌++◌, length, take, drop, OnOk};
+ghost use Rattle.std.specs.Prelude.{◌≡◌, ◌↔◌, map, length, IsTrue, OnOk};
 ghost use Rattle.std.specs.Io.KnownBytes.{Appends};
 ghost use Rattle.std.specs.IoError.{error_kind};
-ghost use Rattle.stream.specs.Stream.{step_of, is_interrupted, visible_byte, line_of, Moves, Brings, Within, Came, Begins, Says, Prints};
+ghost use Rattle.stream.specs.Stream.{visible_byte, line_of, Within, Came, Begins, Says, Tells, Prints};
 
 use std::io;
 use std::io::{ErrorKind, Read, Write};
 
-// What one read says.
-#[derive(Clone, Copy)]
-enum Step {
-    // So many bytes came.
-    More(usize),
-    // There are no more.
-    End,
-    // A signal came before a byte did, so it is tried again.
-    Again,
-    // It failed, for this reason.
-    Failed(io::Error),
-}
-
-// What reading to the end gives.
-#[derive(Clone, Copy)]
-pub enum Input {
-    // The end was seen, after so many bytes.
-    Whole(usize),
-    // There was no room left, so whether more would come is not known.
-    Full,
-    // A read failed, for this reason.
-    Failed(io::Error),
-}
-
-// Reads until the input ends, `buf` is full or a read fails, and leaves what came at the start of `buf`. A short read
-// is followed by another. An interrupted one is tried again, 2^64 - 1 times in all, since a proved loop has to end.
-pub fn read_to_end<R: Read>(reader: &mut R, buf: &mut [u8]) -> Input
+// Reads until the input ends, `buf` is full or a read fails, and answers how many bytes came. These stand at the start
+// of `buf`: where they don't fill it the end was seen, and where they do, more may come. A short read is followed by
+// another. An interrupted one is tried again, 2^64 - 1 times in all, since a proved loop has to end.
+pub fn read_to_end<R: Read>(reader: &mut R, buf: &mut [u8]) -> io::Result<usize>
     ensures within { Within result (length buf.new) }
     ensures came { Came (R.remaining reader.old) (R.remaining reader.new) result buf.new }
 {
     let mut done = 0;
-    let mut tries = u64::MAX;
+    let mut tries = 0..u64::MAX;
     while done < buf.len() {
-        match read_after(reader, buf, done) {
-            Step::More(more) => done += more,
-            Step::End => return Input::Whole(done),
-            Step::Failed(error) => return Input::Failed(error),
-            Step::Again => {
-                if tries == 0 {
-                    return Input::Failed(io::Error::from(ErrorKind::Interrupted));
-                }
-                tries -= 1;
-            }
+        match reader.read(&mut buf[done..]) {
+            Ok(0) => break,
+            Ok(more) => done += more,
+            Err(error) if is_interrupted(&error) && tries.next().is_some() => {}
+            Err(error) => return Err(error),
         }
     }
-    Input::Full
-}
-
-// One read, to the place after the first `done` bytes, which stay as they are.
-fn read_after<R: Read>(reader: &mut R, buf: &mut [u8], done: usize) -> Step
-    requires { done < length buf.old }
-    ensures buf_unchanged { take done buf.new ≡ take done buf.old }
-    ensures moves { Moves result (length buf.old - done) }
-    ensures brings { Brings (R.remaining reader.old) (R.remaining reader.new) result (drop done buf.new) }
-{
-    let read = reader.read(&mut buf[done..]);
-    step_of(read)
-}
-
-// What a read says that answered `read`.
-fn step_of(read: io::Result<usize>) -> Step
-    ensures { result ≡ step_of read }
-{
-    match read {
-        Ok(0) => Step::End,
-        Ok(got) => Step::More(got),
-        Err(error) => {
-            if !is_interrupted(&error) {
-                return Step::Failed(error);
-            }
-            Step::Again
-        }
-    }
+    Ok(done)
 }
 
 // Whether a signal interrupted the call.
 fn is_interrupted(error: &io::Error) -> bool
-    ensures { result ≡ is_interrupted (error_kind error.now) }
+    ensures { IsTrue result ↔ (error_kind error.now ≡ ErrorKind.Interrupted) }
 {
     error.kind() == ErrorKind::Interrupted
 }
 
-// Writes all of `text` to `out`, the last that a program prints, since its end closes standard output. If a write fails,
-// a line on `errors` has `what` and the reason.
-pub fn print_and_close<W: Write, E: Write>(out: &mut W, errors: &mut E, text: &[u8], what: &[u8])
-    ensures { Prints (W.contents out.old) (W.contents out.new) (E.contents errors.old) (E.contents errors.new) text.now what.now }
+// Writes all of `text` to `out`, the last that a program prints, since its end closes standard output. If a write
+// fails, a line on `errors` has `what` and the reason. It answers Ok where either is there whole.
+// The two writers are no struct: where nothing is to print a line is told to `errors` alone.
+pub fn print_and_close<W: Write, E: Write>(
+    out: &mut W,
+    errors: &mut E,
+    text: &[u8],
+    what: &[u8],
+) -> io::Result<()>
+    ensures prints { Prints Says (W.contents out.old) (W.contents out.new)
+        (E.contents errors.old) (E.contents errors.new) text.now what.now }
+    ensures whole { OnOk result (Prints Tells (W.contents out.old) (W.contents out.new)
+        (E.contents errors.old) (E.contents errors.new) text.now what.now) }
 {
-    if let Err(error) = write_whole(out, text) {
-        fail(errors, what, error);
+    // No `or_else`: nothing is known of what its closure leaves in `errors`.
+    match write_whole(out, text) {
+        Ok(()) => Ok(()),
+        Err(error) => fail(errors, what, error),
     }
 }
 
@@ -112,54 +69,41 @@ fn write_whole<W: Write>(out: &mut W, text: &[u8]) -> io::Result<()>
     ensures whole { OnOk result (Appends (W.contents out.old) (W.contents out.new) text.now) }
 {
     let mut done = 0;
-    let mut again = u64::MAX;
+    let mut tries = 0..u64::MAX;
     while done < text.len() {
         match out.write(&text[done..]) {
             Ok(0) => return Err(io::Error::new(ErrorKind::WriteZero, "No byte was taken")),
             Ok(more) => done += more,
-            Err(error) => {
-                if !is_interrupted(&error) {
-                    return Err(error);
-                }
-                if again == 0 {
-                    return Err(error);
-                }
-                again -= 1;
-            }
+            Err(error) if is_interrupted(&error) && tries.next().is_some() => {}
+            Err(error) => return Err(error),
         }
     }
     out.flush()
 }
 
 // Writes a line to `errors`: what failed, as the caller names it, a colon and the system's text for the reason.
-pub fn fail<E: Write>(errors: &mut E, what: &[u8], error: io::Error)
-    ensures { Says (E.contents errors.old) (E.contents errors.new) what.now }
+pub fn fail<E: Write>(errors: &mut E, what: &[u8], error: io::Error) -> io::Result<()>
+    ensures begins { Says (E.contents errors.old) (E.contents errors.new) what.now }
+    ensures whole { OnOk result (Tells (E.contents errors.old) (E.contents errors.new) what.now) }
 {
     let mut text = io::Cursor::new([0u8; 320]);
     let _ = write!(text, "{error}");
     let n = (text.position() as usize).min(320);
     let reason = std::str::from_utf8(&text.get_ref()[..n]).unwrap_or("");
-    say(errors, what, without_number(reason).as_bytes());
+    say(errors, what, without_number(reason).as_bytes())
 }
 
 // The text of an error without its number, which `Display` puts behind it.
 fn without_number(text: &str) -> &str {
-    match text.rsplit_once(" (os error ") {
-        Some((reason, _)) => reason,
-        None => text,
-    }
+    text.rsplit_once(" (os error ")
+        .map_or(text, |(reason, _)| reason)
 }
 
-// Writes the line that has `what` and `reason`. Where that fails, nobody can be told.
-pub fn say<E: Write>(errors: &mut E, what: &[u8], reason: &[u8])
-    ensures { Begins (E.contents errors.old) (E.contents errors.new) (line_of what.now reason.now) }
-{
-    let _ = write_line(errors, what, reason);
-}
-
-fn write_line<E: Write>(errors: &mut E, what: &[u8], reason: &[u8]) -> io::Result<()>
+// Writes the line that has `what` and `reason`. Where it answers Err, nobody can be told.
+pub fn say<E: Write>(errors: &mut E, what: &[u8], reason: &[u8]) -> io::Result<()>
     ensures begins { Begins (E.contents errors.old) (E.contents errors.new) (line_of what.now reason.now) }
-    ensures whole { OnOk result (Appends (E.contents errors.old) (E.contents errors.new) (line_of what.now reason.now)) }
+    ensures whole { OnOk result
+        (Appends (E.contents errors.old) (E.contents errors.new) (line_of what.now reason.now)) }
 {
     write_whole(errors, what)?;
     write_whole(errors, b": ")?;
@@ -171,10 +115,8 @@ fn write_line<E: Write>(errors: &mut E, what: &[u8], reason: &[u8]) -> io::Resul
 pub fn one_line(name: &mut [u8])
     ensures { name.new ≡ map visible_byte name.old }
 {
-    let mut i = 0;
-    while i < name.len() {
-        name[i] = visible(name[i]);
-        i += 1;
+    for b in name.iter_mut() {
+        *b = visible(*b);
     }
 }
 
@@ -182,13 +124,7 @@ pub fn one_line(name: &mut [u8])
 fn visible(b: u8) -> u8
     ensures { result ≡ visible_byte b }
 {
-    if b < 32 {
-        return b'?';
-    }
-    if b == 127 {
-        return b'?';
-    }
-    b
+    if b.is_ascii_control() { b'?' } else { b }
 }
 
 #[cfg(test)]
@@ -220,10 +156,10 @@ mod tests {
     fn the_end_is_told_from_a_full_buffer(rt: HostRuntime) {
         let mut buf = [0u8; 3];
         let short = read_to_end(&mut io::Cursor::new(b"ab"), &mut buf);
-        assert!(rt; matches!(short, Input::Whole(2)));
+        assert!(rt; matches!(short, Ok(2)));
         assert_eq!(rt; &buf, b"ab\0");
         let long = read_to_end(&mut io::Cursor::new(b"abc"), &mut buf);
-        assert!(rt; matches!(long, Input::Full));
+        assert!(rt; matches!(long, Ok(3)));
     }
 
     #[test]
@@ -231,17 +167,13 @@ mod tests {
         let mut buf = [0u8; 3];
         let read = read_to_end(&mut Broken { turn: 0 }, &mut buf);
         assert_eq!(rt; &buf, b"x\0\0");
-        if let Input::Failed(error) = read {
-            assert_eq!(rt; error.raw_os_error(), Some(5));
-        } else {
-            assert!(rt; false);
-        }
+        assert_eq!(rt; read.map_err(|error| error.raw_os_error()), Err(Some(5)));
     }
 
     #[test]
     fn a_line_has_the_text_of_the_system_without_its_number(rt: HostRuntime) -> Result<(), Fail> {
         let mut errors = Vec::new(rt.alloc());
-        fail(&mut errors, b"tally: log", io::Error::from_raw_os_error(2));
+        fail(&mut errors, b"tally: log", io::Error::from_raw_os_error(2))?;
         assert_eq!(rt;
             errors.as_slice(),
             b"tally: log: No such file or directory\n".as_slice()
@@ -254,7 +186,7 @@ mod tests {
         let mut room = [0u8; 3];
         let mut out = io::Cursor::new(&mut room[..]);
         let mut errors = Vec::new(rt.alloc());
-        print_and_close(&mut out, &mut errors, b"text", b"tally: output");
+        print_and_close(&mut out, &mut errors, b"text", b"tally: output")?;
         assert_eq!(rt;
             errors.as_slice(),
             b"tally: output: No byte was taken\n".as_slice()

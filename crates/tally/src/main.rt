@@ -4,9 +4,8 @@
 
 ghost use Rattle.std.specs.Prelude.{◌≡◌, ◌≤◌, length, take};
 ghost use Rattle.io.specs.Counts.{IsPrefixLen};
-ghost use Rattle.stream.specs.Stream.{Within, Came};
 ghost use Rattle.tallytext.specs.Text.{printed_of};
-ghost use Rattle.tally.specs.Program.{shown_of, AsksFor, Shows};
+ghost use Rattle.tally.specs.Program.{AsksFor, Shows};
 
 use leb128::Encoded;
 use std::env::FillError;
@@ -14,17 +13,42 @@ use std::fs::File;
 use std::io;
 use std::io::{ErrorKind, Read, Write};
 use std::rt::{Env, Files};
-use stream::Input;
 
 fn main(rt: HostRuntime) {
+    // What fails beyond this has no line on standard error, and nobody can be told.
+    let _ = answer(&rt, &mut rt.stdin(), &mut rt.stdout(), &mut rt.stderr());
+}
+
+// Does what the arguments ask for. It answers Ok where a text was printed or a line on standard error was told.
+fn answer<P: Env + Files, R: Read, W: Write, E: Write>(
+    rt: &P,
+    reader: &mut R,
+    out: &mut W,
+    errors: &mut E,
+) -> io::Result<()> {
+    if is_given(rt, 2) {
+        return say_usage(errors);
+    }
+    // How a line on standard error begins: the program's name, and the argument. There is no heap, by the project's
+    // rule, so room is fixed: a path has at most 4,096 bytes.
     let mut line = [0u8; 4103];
-    answer(
-        &rt,
-        &mut rt.stdin(),
-        &mut rt.stdout(),
-        &mut rt.stderr(),
-        &mut line,
-    );
+    line[..7].copy_from_slice(b"tally: ");
+    match rt.arg(1, &mut line[7..]) {
+        Ok(n) => match asked_by(&line[7..7 + n]) {
+            Asked::Help => print_help(out, errors),
+            Asked::File => show_file(rt, out, errors, &mut line[..7 + n]),
+            Asked::Neither => say_usage(errors),
+        },
+        Err(FillError::NotPresent) => show(reader, out, errors, b"tally: standard input"),
+        Err(FillError::TooLong) => {
+            stream::say(errors, b"tally: the argument", b"File name too long")
+        }
+    }
+}
+
+// Whether the program was started with an argument of this number.
+fn is_given<P: Env>(rt: &P, i: usize) -> bool {
+    !matches!(rt.arg(i, &mut []), Err(FillError::NotPresent))
 }
 
 // What the argument asks for.
@@ -35,63 +59,18 @@ enum Asked {
     Neither,
 }
 
-// Does what the arguments ask for. `line` gets the program's name before the first, as a line on standard error begins.
-fn answer<P: Env + Files, R: Read, W: Write, E: Write>(
-    rt: &P,
-    reader: &mut R,
-    out: &mut W,
-    errors: &mut E,
-    line: &mut [u8],
-)
-    requires { length line.old ≡ 4103 }
-{
-    if is_given(rt, 2) {
-        say_usage(errors);
-        return;
-    }
-    line[..7].copy_from_slice(b"tally: ");
-    match rt.arg(1, &mut line[7..]) {
-        Ok(n) => {
-            let end = 7 + n;
-            match asked_by(&line[7..end]) {
-                Asked::Help => print_help(out, errors),
-                Asked::File => show_file(rt, out, errors, line, end),
-                Asked::Neither => say_usage(errors),
-            }
-        }
-        Err(FillError::NotPresent) => show(reader, out, errors, b"tally: standard input"),
-        Err(FillError::TooLong) => {
-            stream::say(errors, b"tally: the argument", b"File name too long")
-        }
-    }
-}
-
-// Whether the program was started with an argument of this number.
-fn is_given<P: Env>(rt: &P, i: usize) -> bool {
-    match rt.arg(i, &mut []) {
-        Ok(_) => true,
-        Err(FillError::TooLong) => true,
-        Err(FillError::NotPresent) => false,
-    }
-}
-
 // What a word asks for.
 fn asked_by(word: &[u8]) -> Asked
     ensures { AsksFor word.now result }
 {
-    if word.len() == 0 {
-        return Asked::Neither;
+    match word {
+        b"--help" => Asked::Help,
+        [] | [b'-', ..] => Asked::Neither,
+        _ => Asked::File,
     }
-    if word[0] != b'-' {
-        return Asked::File;
-    }
-    if word == b"--help".as_slice() {
-        return Asked::Help;
-    }
-    Asked::Neither
 }
 
-fn print_help<W: Write, E: Write>(out: &mut W, errors: &mut E) {
+fn print_help<W: Write, E: Write>(out: &mut W, errors: &mut E) -> io::Result<()> {
     stream::print_and_close(
         out,
         errors,
@@ -117,28 +96,27 @@ the form of a log, the reasons of a refusal, and a test that a text is whole.
     --help   print this text
 ",
         b"tally: standard output",
-    );
+    )
 }
 
-fn say_usage<E: Write>(errors: &mut E) {
-    let _ = errors.write_all(b"tally: give no argument, or the name of a file, or --help\n");
+fn say_usage<E: Write>(errors: &mut E) -> io::Result<()> {
+    errors.write_all(b"tally: give no argument, or the name of a file, or --help\n")
 }
 
-// Shows the report of the file whose name is in `line`, from byte 7 up to `end`.
+// Shows the report of the file whose name is in `line`, after the first 7 bytes.
 fn show_file<P: Files, W: Write, E: Write>(
     rt: &P,
     out: &mut W,
     errors: &mut E,
     line: &mut [u8],
-    end: usize,
-)
-    requires { (7 ≤ end) × (end ≤ length line.old) }
+) -> io::Result<()>
+    requires { 7 ≤ length line.old }
 {
-    let opened = open(rt, &line[7..end]);
+    let opened = open(rt, &line[7..]);
     stream::one_line(line);
     match opened {
-        Ok(mut file) => show(&mut file, out, errors, &line[..end]),
-        Err(error) => stream::fail(errors, &line[..end], error),
+        Ok(mut file) => show(&mut file, out, errors, line),
+        Err(error) => stream::fail(errors, line, error),
     }
 }
 
@@ -151,60 +129,31 @@ fn open<P: Files>(rt: &P, name: &[u8]) -> io::Result<P::File> {
 }
 
 // Prints the report of the log that comes from `reader`. If a read fails, a line on standard error has `name` and the
-// reason.
-fn show<R: Read, W: Write, E: Write>(reader: &mut R, out: &mut W, errors: &mut E, name: &[u8])
+// reason. The input has room for one byte more than is run, so that longer input is told from input of 16,384 bytes.
+fn show<R: Read, W: Write, E: Write>(
+    reader: &mut R,
+    out: &mut W,
+    errors: &mut E,
+    name: &[u8],
+) -> io::Result<()>
     ensures { Shows (R.remaining reader.old) (R.remaining reader.new)
-        (W.contents out.old) (W.contents out.new) (E.contents errors.old) (E.contents errors.new) name.now }
+        (W.contents out.old) (W.contents out.new) (E.contents errors.old) (E.contents errors.new) name.now result }
 {
+    // There is no heap, by the project's rule, so room is fixed: for a byte more than is run, and for the longest text.
     let mut input = [0u8; 16385];
     let mut text = [0u8; 264256];
-    let ran = run(reader, &mut input, &mut text);
-    let read = ran.read;
-    if let Input::Failed(error) = read {
-        stream::fail(errors, name, error);
-        return;
-    }
-    let length = ran.length;
-    stream::print_and_close(out, errors, &text[..length], b"tally: standard output");
-}
-
-// What reading gave, and the length of its report.
-#[derive(Drop)]
-struct Ran {
-    read: Input,
-    length: usize,
-}
-
-// Reads a log into `input`, and puts the report of what was read, as `read_to_end` answers it, at the start of `text`.
-fn run<R: Read>(reader: &mut R, input: &mut [u8], text: &mut [u8]) -> Ran
-    requires { (length input.old ≡ 16385) × (264256 ≤ length text.old) }
-    ensures prefix_len { IsPrefixLen result.length text.new }
-    ensures text_after { take result.length text.new ≡ shown_of result.read input.new }
-    ensures within { Within result.read 16385 }
-    ensures came { Came (R.remaining reader.old) (R.remaining reader.new) result.read input.new }
-{
-    let read = stream::read_to_end(reader, input);
-    let length = report_of(input, read, text);
-    Ran { read, length }
-}
-
-// Puts the report of what was read at the start of `text`, and answers its length; where a read failed there is none.
-// The input has room for one byte more than is run, so that longer input is told from input of 16,384 bytes.
-fn report_of(input: &[u8], read: Input, text: &mut [u8]) -> usize
-    requires { (length input.now ≡ 16385) × Within read 16385 × (264256 ≤ length text.old) }
-    ensures prefix_len { IsPrefixLen result text.new }
-    ensures text_after { take result text.new ≡ shown_of read input.now }
-{
-    match read {
-        Input::Whole(n) => report_of_bytes(&input[..n], text),
-        Input::Full => report_of_bytes(input, text),
-        Input::Failed(_) => 0,
+    match stream::read_to_end(reader, &mut input) {
+        Ok(n) => {
+            let length = report_of(&input[..n], &mut text);
+            stream::print_and_close(out, errors, &text[..length], b"tally: standard output")
+        }
+        Err(error) => stream::fail(errors, name, error),
     }
 }
 
 // Puts the report of these bytes, run in a new tracker, at the start of `text`, and answers its length. The text always
 // fits, so the last case is never taken.
-fn report_of_bytes(bytes: &[u8], text: &mut [u8]) -> usize
+fn report_of(bytes: &[u8], text: &mut [u8]) -> usize
     requires { 264256 ≤ length text.old }
     ensures prefix_len { IsPrefixLen result text.new }
     ensures text_after { take result text.new ≡ printed_of bytes.now }
@@ -213,8 +162,7 @@ fn report_of_bytes(bytes: &[u8], text: &mut [u8]) -> usize
     let mut policies = [0u64; 4096];
     let mut counts = [0u8; 256];
     let made = report::tally(bytes, &mut tags, &mut policies, &mut counts, text);
-    let reply = made.reply;
-    match reply {
+    match made.reply {
         Encoded::Next(length) => length,
         Encoded::ShortOutput => 0,
     }

@@ -1,14 +1,7 @@
--- The first i bytes are as they are shown, the others as they were; what is left of the name falls. Assumes nothing.
-use Rattle.std.proofs.Common.{length, ◌-◌, ◌≡◌, map, ◌≤◌, ◌++◌, take, drop, ℕ, List}
+-- The bytes before the index are as they are shown, the others as they were. Assumes nothing.
+use Rattle.std.proofs.Common.{◌≡◌, ◌++◌, map, take, drop}
 use Rattle.stream.specs.Stream.{visible_byte}
 use Rattle.stream.proofs.one_line.Given as goal
 
--- the first i bytes as they are shown, and the others
-unfoldable pub partly : ℕ → List ℕ → List ℕ
-partly i xs = map visible_byte (take i xs) ++ drop i xs
-
-abbrev pub invariant-loop-i : goal.invariant-loop-i
-invariant-loop-i l = (l.i ≤ length l.initial.name) × (length l.name ≡ length l.initial.name) × (l.name ≡ partly l.i l.initial.name)
-
-abbrev pub decreases-loop-i : goal.decreases-loop-i
-decreases-loop-i l = length l.initial.name - l.i
+abbrev pub invariant-loop-b : goal.invariant-loop-b
+invariant-loop-b l = l.name ≡ map visible_byte (take l.b-index l.initial.name) ++ drop l.b-index l.initial.name

@@ -1,69 +1,26 @@
 -- What came so far, and what a read brings after it. Assumes nothing.
-use Rattle.std.proofs.Common.{◌≡◌, ℕ, ◌+◌, List, ◌++◌, Option, take, drop, sym, ap, subst, ◌∙◌, arith, rules, take_all}
-use lib.Seq.{take-add}
-use Rattle.std.specs.Io.KnownBytes.{Keeps, Consumes}
-use Rattle.std.proofs.KnownBytes.{Consumes-trans, Consumes-kept}
-use Rattle.stream.specs.Stream.{Moves, Brings, Came}
+use Rattle.std.proofs.Common.{◌≡◌, ℕ, ◌+◌, ◌≤◌, List, ◌++◌, Option, length, take, sym, ap, subst, ◌∙◌, arith, rules, length-take-le}
+use lib.Seq.{take-append-le, take-append-add}
+use Rattle.std.specs.Io.KnownBytes.{Consumes}
+use Rattle.std.proofs.KnownBytes.{Consumes-trans}
 use Rattle.stream.proofs.read_to_end.Goals as goal
-use Rattle.stream.proofs.read_to_end.Goals.{In-More}
 
--- the first f bytes came before, and n more stand after them
-more : (a b c : Option (List ℕ)) (xs ys : List ℕ) (f n : ℕ) → take f ys ≡ take f xs → Consumes a b (take f xs) → Consumes b c (take n (drop f ys)) → Consumes a c (take (f + n) ys)
-more a b c xs ys f n same before came =
-    subst (Consumes a c) (ap (λ (l : List ℕ). l ++ take n (drop f ys)) (sym same) ∙ sym (take-add f n ys)) (Consumes-trans a b c _ _ before came)
+-- the first bytes of the part that was read into stand after the front
+after : (front part rest : List ℕ) (f n : ℕ) → length front ≡ f → n ≤ length part → front ++ take n part ≡ take (f + n) (front ++ (part ++ rest))
+after front part rest f n long h =
+    sym (ap (λ (k : ℕ). take (k + n) (front ++ (part ++ rest))) (sym long) ∙ take-append-add front (part ++ rest) n ∙ ap (λ (l : List ℕ). front ++ l) (take-append-le n part rest h))
 
--- no byte came since
-none : (a b c : Option (List ℕ)) (xs ys : List ℕ) (f : ℕ) → take f ys ≡ take f xs → Consumes a b (take f xs) → Keeps b c → Consumes a c (take f ys)
-none a b c xs ys f same before kept = subst (Consumes a c) (sym same) (Consumes-kept a b c _ before kept)
+-- the front came before, and n bytes more after it
+more : (a b c : Option (List ℕ)) (front part rest : List ℕ) (f n : ℕ) → length front ≡ f → n ≤ length part → Consumes a b front → Consumes b c (take n part)
+    → Consumes a c (take (f + n) (front ++ (part ++ rest)))
+more a b c front part rest f n long h before came = subst (Consumes a c) (after front part rest f n long h) (Consumes-trans a b c _ _ before came)
 
-pub overflow_add-done : goal.overflow_add-done
-unfolding Moves
-overflow_add-done g c = record { fits = omega (arith, c.in-More.ensures.moves) }
-
-pub loop-done-smaller-in-More : goal.loop-done-smaller-in-More
-unfolding Moves
-loop-done-smaller-in-More g c = omega (arith, c.in-More.ensures.moves)
-
-pub loop-done-preserved-in-More : goal.loop-done-preserved-in-More
-unfolding Moves Brings
-loop-done-preserved-in-More g c =
+pub loop-done-preserved-in-Ok : goal.loop-done-preserved-in-Ok
+loop-done-preserved-in-Ok g c =
     let at = c.loop-done in
+    let read = c.in-Ok.ensures in
     record {
-      same_length = search rules;
-      within = omega (arith, c.in-More.ensures.moves);
-      came = more _ _ _ at.buf _ at.done c.in-More.more c.in-More.ensures.buf_unchanged at.invariant.came c.in-More.ensures.brings;
-    }
-
-pub loop-done-preserved : goal.loop-done-preserved
-unfolding Brings
-loop-done-preserved g c =
-    let at = c.loop-done in
-    record {
-      same_length = search rules;
+      came = more _ _ _ _ c.read.new.buf _ at.done c.in-Ok.more (length-take-le at.done at.buf (omega (arith, at.invariant.within))) read.bound.0 at.invariant.came read.bytes.0;
       within = search rules;
-      came = none _ _ _ at.buf _ at.done c.in-Again.ensures.buf_unchanged at.invariant.came c.in-Again.ensures.brings;
+      same_length = search rules;
     }
-
-pub returns-in-End-clause-came : goal.returns-in-End-clause-came
-unfolding Came Brings
-returns-in-End-clause-came g c =
-    let at = c.loop-done in
-    (none _ _ _ at.buf _ at.done c.in-End.ensures.buf_unchanged at.invariant.came c.in-End.ensures.brings.0, c.in-End.ensures.brings.1)
-
-pub returns-in-Failed-clause-came : goal.returns-in-Failed-clause-came
-unfolding Came Brings
-returns-in-Failed-clause-came g c =
-    let at = c.loop-done in
-    (at.done, search rules, none _ _ _ at.buf _ at.done c.in-Failed.ensures.buf_unchanged at.invariant.came c.in-Failed.ensures.brings)
-
-pub returns-then-tries-eq0-clause-came : goal.returns-then-tries-eq0-clause-came
-unfolding Came Brings
-returns-then-tries-eq0-clause-came g c =
-    let at = c.loop-done in
-    (at.done, search rules, none _ _ _ at.buf _ at.done c.in-Again.ensures.buf_unchanged at.invariant.came c.in-Again.ensures.brings)
-
-pub returns-clause-came : goal.returns-clause-came
-unfolding Came
-returns-clause-came g c =
-    let at = c.loop-done in
-    subst (Consumes _ _) (take_all at.done at.buf (omega arith)) at.invariant.came

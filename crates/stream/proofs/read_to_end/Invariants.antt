@@ -5,10 +5,10 @@ use Rattle.stream.proofs.read_to_end.Given as goal
 
 abbrev pub invariant-loop-done : goal.invariant-loop-done
 invariant-loop-done g l = record {
-  same_length : length l.buf ≡ length l.initial.buf;
-  within : l.done ≤ length l.buf;
   came : Consumes (g.R.Read.remaining l.initial.reader) (g.R.Read.remaining l.reader) (take l.done l.buf);
+  within : l.done ≤ length l.buf;
+  same_length : length l.buf ≡ length l.initial.buf;
 }
 
 abbrev pub decreases-loop-done : goal.decreases-loop-done
-decreases-loop-done g l = (length l.buf - l.done) + l.tries
+decreases-loop-done g l = (length l.buf - l.done) + (l.tries.end - l.tries.start)

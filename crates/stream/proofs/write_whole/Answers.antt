@@ -1,31 +1,21 @@
--- What was written so far, and what a write takes behind it. Assumes nothing.
-use Rattle.std.proofs.Common.{◌+◌, arith, rules}
-use Rattle.stream.proofs.Writing.{Begins-at, more-written, none-written}
+-- What a write takes comes behind what was written so far. Assumes nothing.
+use Rattle.std.proofs.Common.{◌≡◌, ℕ, ◌+◌, ◌-◌, List, Option, length, take, drop, sym, subst, arith, rules, length-drop, take_all}
+use lib.Seq.{take-add}
+use Rattle.std.specs.Io.KnownBytes.{Appends}
+use Rattle.std.proofs.KnownBytes.{Appends-trans}
 use Rattle.stream.proofs.write_whole.Goals as goal
 
-pub returns-in-Ok-eq0-clause-begins : goal.returns-in-Ok-eq0-clause-begins
-returns-in-Ok-eq0-clause-begins g c =
-    let at = c.loop-done in
-    let more = c.in-Ok-eq0.field-0 in
-    Begins-at _ _ (at.done + more) c.args.text.now (omega (arith, c.in-Ok-eq0.field-0-test, at.invariant.within))
-    (more-written _ _ _ c.args.text.now at.done more at.invariant.wrote c.in-Ok-eq0.ensures.bytes)
+-- n bytes more of a text, from the part that was left of it
+more : (a b c : Option (List ℕ)) (text : List ℕ) (f n : ℕ) → Appends a b (take f text) → Appends b c (take n (take (length text - f) (drop f text))) → Appends a c (take (f + n) text)
+more a b c text f n before wrote =
+    let rest : take (length text - f) (drop f text) ≡ drop f text = take_all (length text - f) (drop f text) (omega (arith, length-drop f text)) in
+    let after : Appends b c (take n (drop f text)) = subst (λ (l : List ℕ). Appends b c (take n l)) rest wrote in
+    subst (Appends a c) (sym (take-add f n text)) (Appends-trans a b c _ _ before after)
 
 pub loop-done-preserved-in-Ok : goal.loop-done-preserved-in-Ok
 loop-done-preserved-in-Ok g c =
     let at = c.loop-done in
     record {
+      wrote = more _ _ _ c.args.text.now at.done c.in-Ok.more at.invariant.wrote c.in-Ok.ensures.bytes;
       within = search rules;
-      wrote = more-written _ _ _ c.args.text.now at.done c.in-Ok.more at.invariant.wrote c.in-Ok.ensures.bytes;
     }
-
-pub returns-then-not-is_interrupted-clause-begins : goal.returns-then-not-is_interrupted-clause-begins
-returns-then-not-is_interrupted-clause-begins g c =
-    let at = c.loop-done in none-written _ _ _ c.args.text.now at.done at.invariant.within at.invariant.wrote c.in-Err.ensures.bytes
-
-pub returns-then-again-eq0-clause-begins : goal.returns-then-again-eq0-clause-begins
-returns-then-again-eq0-clause-begins g c =
-    let at = c.loop-done in none-written _ _ _ c.args.text.now at.done at.invariant.within at.invariant.wrote c.in-Err.ensures.bytes
-
-pub returns-clause-begins : goal.returns-clause-begins
-returns-clause-begins g c =
-    let at = c.loop-done in none-written _ _ _ c.args.text.now at.done at.invariant.within at.invariant.wrote c.flush.ensures.bytes

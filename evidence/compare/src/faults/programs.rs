@@ -49,14 +49,14 @@ fn main(rt: HostRuntime) {",
 
 /// Standard input is read, whatever file is named.
 const INPUT: &[(&str, &str)] = &[(
-    "Asked::File => show_file(rt, out, errors, line, end),",
-    "Asked::File => show(reader, out, errors, &line[..end]),",
+    "Asked::File => show_file(rt, out, errors, &mut line[..7 + n]),",
+    "Asked::File => show(reader, out, errors, &line[..7 + n]),",
 )];
 
 /// An interrupted read is a failure at once.
 const ONCE: &[(&str, &str)] = &[(
-    "let mut tries = u64::MAX;\n    while done < buf.len() {",
-    "let mut tries: u64 = 0;\n    while done < buf.len() {",
+    "let mut tries = 0..u64::MAX;\n    while done < buf.len() {",
+    "let mut tries = 0..0u64;\n    while done < buf.len() {",
 )];
 
 /// A writer that claims to have written what it could not write.
@@ -92,7 +92,7 @@ fn main(rt: HostRuntime) {",
 ];
 
 /// A file that cannot be opened ends the run without a line.
-const UNTOLD: &[(&str, &str)] = &[("Err(error) => stream::fail(errors, &line[..end], error),", "Err(_) => {}")];
+const UNTOLD: &[(&str, &str)] = &[("Err(error) => stream::fail(errors, line, error),", "Err(_) => Ok(()),")];
 
 /// All wrong programs; the gate tries the first two, since each takes the time of a proof.
 pub fn edits() -> Vec<Edit> {
