@@ -7,7 +7,6 @@ ghost use Rattle.io.specs.Counts.{IsPrefixLen};
 ghost use Rattle.tallytext.specs.Text.{printed_of};
 ghost use Rattle.tally.specs.Program.{AsksFor, Shows};
 
-use leb128::Encoded;
 use std::env::FillError;
 use std::fs::File;
 use std::io;
@@ -163,7 +162,7 @@ fn report_of(bytes: &[u8], text: &mut [u8]) -> usize
     let mut counts = [0u8; 256];
     let made = report::tally(bytes, &mut tags, &mut policies, &mut counts, text);
     match made.reply {
-        Encoded::Next(length) => length,
-        Encoded::ShortOutput => 0,
+        Ok(length) => length,
+        Err(_) => 0,
     }
 }

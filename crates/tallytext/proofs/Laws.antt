@@ -12,7 +12,8 @@ use Rattle.std.proofs.Math.ListN.{get_or-append}
 use borrow.Table.Steps.{cases}
 use Rattle.truth.specs.Truth.{and_both}
 use Rattle.refusal.specs.declared.Refusal.{Refusal}
-use Rattle.refusal.specs.declared.Refusal.TheVariants.{ShortOutput}
+use Rattle.refusal.specs.Number.{number_of}
+use Rattle.refusal.proofs.Number.{number-positive}
 use Rattle.leb128.specs.Answer.{Writing, wrote, unwritten, writing_of}
 use Rattle.leb128.specs.Number.{IsBytes, Written}
 use Rattle.leb128.specs.Output.{overwrite-start, write-fits, write-short}
@@ -337,7 +338,7 @@ module _ (bs : List ℕ) (lent : Storage) (out : List ℕ) where
   pub tally-suffices : IsBytes bs → 264256 ≤ length out → (tally_of bs lent out).answer ≡ wrote (length (text_of bs lent))
   tally-suffices are h = (tally-fits (omega (arith, text-fits bs lent are))).0
 
-  -- so what a call leaves up to the position that it answers is the text, and it does not answer 10
+  -- so what a call leaves up to the position that it answers is the text, and it answers no refusal
   module _ (are : IsBytes bs) (h : 264256 ≤ length out) {r : Result ℕ Refusal} (a : writing_of r ≡ (tally_of bs lent out).answer) where
     pub tally-prints : {left : List ℕ} → left ≡ (tally_of bs lent out).output → (p : ℕ) → r ≡ Ok p → take p left ≡ text_of bs lent
     tally-prints {left} o p n =
@@ -345,6 +346,6 @@ module _ (bs : List ℕ) (lent : Storage) (out : List ℕ) where
         let l : left ≡ text_of bs lent ++ drop (length (text_of bs lent)) out = o ∙ (tally-fits (omega (arith, text-fits bs lent are))).1 in
         ap₂ take e l ∙ take_at (text_of bs lent) (drop (length (text_of bs lent)) out) (length (text_of bs lent)) refl
 
-    pub tally-not-short : r ≢ Err ShortOutput
-    tally-not-short n =
-        let z : ◌≡◌ {A = ℕ} 10 0 = ap (λ (w : Writing). w.refusal) (sym (ap writing_of n) ∙ a ∙ tally-suffices are h) in omega (arith, z)
+    pub tally-not-short : (k : Refusal) → r ≢ Err k
+    tally-not-short k n =
+        let z : number_of k ≡ 0 = ap (λ (w : Writing). w.refusal) (sym (ap writing_of n) ∙ a ∙ tally-suffices are h) in omega (arith, z, number-positive k)
