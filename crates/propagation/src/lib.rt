@@ -34,6 +34,7 @@ fn make_passes(tags: &mut [u64], n: u32, flows: &[Flow]) -> Propagated
     ensures passes { result.passes ≡ passes_of n (edges_of flows.now) tags.old }
     ensures gain { result.gain ≡ new_in_passes (passes_of n (edges_of flows.now) tags.old) n (edges_of flows.now) tags.old }
 {
+    // There is no heap, by the project's rule, so room is fixed: for 256 sets.
     let mut found = [0u64; 1024];
     copy_sets(tags, &mut found, 0, n);
     let mut gain: u32 = 0;

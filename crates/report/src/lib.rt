@@ -20,7 +20,7 @@ use state::Header;
 use tagset::TagSet;
 
 // What a run of `tally` gives back: the length of its text or that the output is too short, the header and the flow
-// table.
+// table, which is its own and by value, since there is no heap, by the project's rule.
 #[derive(Clone, Copy)]
 pub struct Tallied {
     pub reply: Result<usize, Refusal>,
