@@ -68,6 +68,9 @@ class Repository:
         return named[0]
 
     def declared(self, path, name):
+        passed = getattr(self.files.get(path), "passed", {}).get(name)
+        if passed:
+            return self.in_source(passed.split("::")[0], name)
         if path not in self.files or name not in self.files[path].names:
             raise LookupError(f"{path}: no declaration {name}")
         return self.files[path].names[name]

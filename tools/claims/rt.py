@@ -10,6 +10,7 @@ CONST = re.compile(r"^(pub )?(const) (\w+)")
 CLAUSE = re.compile(r"(requires|ensures)\b")
 LABEL = re.compile(r"\b(requires|ensures)\s+\w+\s*\{")
 WORD = re.compile(r"\b(?:\w+::)*[A-Z]\w*")
+USE = re.compile(r"(pub )?use ([\w:]+?)(?:::\{([^}]*)\})?;")
 
 
 def block(lines):
@@ -38,8 +39,14 @@ def variants(lines):
     return [match.group(1) for match in found if match]
 
 
+def items_of(lines):
+    """The imports of the source itself, each up to its semicolon on one line."""
+    text = joined(lines)
+    return re.findall(r"(?<!ghost )\b(?:pub )?use [^;]*;", text)
+
+
 class File:
-    """The declarations of a file by name, each field and variant standing for its type; and the imports."""
+    """The declarations of a file by name, each field and variant standing for its type; the imports; what it passes on."""
 
     def __init__(self, path, text):
         self.path = path
@@ -47,7 +54,9 @@ class File:
         lines = code_lines(text, "//")
         for k in range(len(lines)):
             self.declaration(lines[k:])
-        self.uses = dict(self.use(line.text) for line in lines if re.match(r"(pub )?use ", line.text))
+        used = [one for line in items_of(lines) for one in self.use(line)]
+        self.uses = {name: path for name, path, _ in used}
+        self.passed = {name: path for name, path, public in used if public}
         self.imports = [x[len("ghost "):].rstrip(";") for x in self.ghost_uses(lines)]
         self.names = {}
         for one in self.declared:
@@ -72,9 +81,12 @@ class File:
 
     @staticmethod
     def use(text):
-        """The name that a `use` brings, and its path."""
-        path = re.match(r"(?:pub )?use ([\w:]+)", text).group(1)
-        return path.split("::")[-1], path
+        """Each name that a `use` brings, with its path, and whether the file passes it on."""
+        match = USE.match(text)
+        public, path, group = match.groups() if match else (None, "", None)
+        names = [name.strip() for name in group.split(",")] if group else [path.split("::")[-1]]
+        start = path if group else path.rpartition("::")[0]
+        return [(name, f"{start}::{name}" if start else name, bool(public)) for name in names if name]
 
     @staticmethod
     def ghost_uses(lines):

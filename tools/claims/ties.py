@@ -16,7 +16,8 @@ LISTS = (
     "module _ (n : ℕ) (lent : Storage) (calls : List Call) (s : State) (made : Called n lent calls s) where",
 )
 HEADS = {THEOREMS: LISTS, TIE: CONTRACTS, EXPORTS: CONTRACTS}
-# The crates whose public functions are tied: the file of the entries, what stands before a name, and what it loses.
+# The crates whose public functions are tied, those that they pass on too: the file of the entries, what stands before a
+# name, and what it loses.
 TIES = [
     ("tracker", TIE, "", ""),
     ("report", TIE, "", ""),
@@ -55,10 +56,21 @@ def faults_of_ties(sources):
     found = []
     for crate, name, before, lost in TIES:
         texts = [" ".join(joined(code_lines(sources.text(path))).split()) for path in sources.places(name)]
-        for one in functions(sources, f"crates/{crate}/src/lib.rt"):
+        path = f"crates/{crate}/src/lib.rt"
+        own = [(crate, one) for one in functions(sources, path)]
+        for home, one in own + passed_on(sources, path):
             entry = before + re.sub(f"^({lost})", "", one.name).replace("_", "-") + "-contract"
-            if not any(is_tied(crate, one.name, entry, text) for text in texts):
+            if not any(is_tied(home, one.name, entry, text) for text in texts):
                 found.append((one.file, one.head[0].number, f"no entry {entry} for {one.name} in {name}.antt"))
+    return found
+
+
+def passed_on(sources, path):
+    """The public functions of other crates that a source file passes on, each with its crate."""
+    found = []
+    for name, there in sources.file(path).passed.items():
+        crate = there.split("::")[0]
+        found += [(crate, one) for one in functions(sources, f"crates/{crate}/src/lib.rt") if one.name == name]
     return found
 
 

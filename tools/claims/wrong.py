@@ -82,12 +82,14 @@ def wrong_ties(sources):
     source = "crates/tracker/src/lib.rt"
     told, size = "no entry enable-contract for enable", "no entry size-of-contract for size_of"
     more = sources.text(source) + "\npub fn one_more(n: u32) -> u32\n{\n    n\n}\n"
+    passed = sources.text(source) + "\npub use calls::apply_enable;\n"
     twice = sources.text(tie).replace("size-it", "tags-it")
     return [
         ("an entry that lacks", *copy(tie, "enable-it.clauses", "disable-it.clauses"), told),
         ("a contract that requires something", *copy(tie, "Ensures 𝓤 enable-it", "Asks 𝓤 enable-it"), told),
         ("an entry of another function", *copy(tie, "contracts.enable as", "contracts.disable as"), told),
         ("a call more", source, more, "no entry one-more-contract for one_more"),
+        ("a call passed on more", source, passed, "no entry apply-enable-contract for apply_enable"),
         ("an entry that states another contract", *copy(tie, " size-it.", " tags-it."), size),
         ("one word for two contracts", tie, twice, size),
         ("an entry of another name", *copy(tie, "pub size-of-contract", "pub sizes-contract"), size),
@@ -137,7 +139,7 @@ def wrong_words(sources):
     theorems = sources.place(THEOREMS, "→ StartGave ")
     running, start = sources.text(words), "\nabbrev pub StartGave :"
     more = running.replace(start, f"\nabbrev pub MoreGave : ℕ → Type 0\nMoreGave r = r ≡ 0\n{start}")
-    untied = sources.text(tie).replace("(TagsGave", "(Told") + "\nmore : State → ℕ → Tags → TagsGave s c r\n"
+    untied = sources.text(tie).replace("(TagsGave", "(Told") + "\nmore : State → ℕ → Result TagSet Refusal → TagsGave s c r\n"
     unsupposed = re.sub(r"→ StartGave [^→]*→", "→", sources.text(theorems))
     return [
         ("a word that no contract has", words, more, "MoreGave is in no entry"),

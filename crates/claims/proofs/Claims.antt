@@ -48,7 +48,8 @@
 -- 'The table of a book or of a run is the tag sets of all holders': `configuration_of` (outcome/specs/Outcome.antt), `configuration` (model/specs/Model.antt)
 -- 'All numbers here are decimal, and bytes are given in decimal too': no statement on the product
 -- 'Part of this product: the book, the log reader and writer, the permission question, the ranking, a program called `tally`': `start`, `enable`, `disable`,
---   `add_policy`, `is_legal`, `rank`, `replay` (tracker/src/lib.rt), `read_record`, `write_record` (eventlog/src/lib.rt), `main` (tally/src/main.rt)
+--   `add_policy` (calls/src/lib.rt), `is_legal` (question/src/lib.rt), `rank` (ranking/src/lib.rt), `replay`
+--   (replay/src/lib.rt), `read_record`, `write_record` (eventlog/src/lib.rt), `main` (tally/src/main.rt)
 -- 'Not part of it: stopping a job, hooks in an operating system, user names, networks': there is no such function, and no theorem
 --
 -- TAG SETS
@@ -67,7 +68,8 @@
 --   (model/specs/Model.antt)
 -- 'The run's table comes from the start by these steps in order; openings and closings change no set in it': an-event-changes-no-set; `initial`,
 --   `configuration` (model/specs/Model.antt)
--- 'A closing names only the channel number': `Event` (model/specs/Model.antt), `fields_of` (eventlog/specs/Answer.antt), `disable` (tracker/src/lib.rt)
+-- 'A closing names only the channel number': `Event` (model/specs/Model.antt), `fields_of`
+--   (eventlog/specs/Answer.antt), `disable` (calls/src/lib.rt)
 -- 'It takes no tag away': disable-changes-no-set, disable-has-nothing-to-propagate
 -- 'Two channels may have the same ends': enable-joins-exactly-if, enable-answers-by-the-table (no row asks for other ends than before)
 -- 'Closing one leaves the other open': disable-takes-the-flow-out, enabled-is-standing; `alike-flow-stays` (model/proofs/Bench.antt)
@@ -146,7 +148,7 @@
 -- RANKING
 -- 'All holders, most tags first; among equal sizes the lower number first': comes-before-exactly-if, the-ranking-is-sorted, the-ranking-is-a-permutation,
 --   no-other-list-is
--- 'It is written as n 16-bit numbers': rank-writes-the-ranking; `rank` (tracker/src/lib.rt), whose output is of 16 bits
+-- 'It is written as n 16-bit numbers': rank-writes-the-ranking; `rank` (ranking/src/lib.rt), whose output is of 16 bits
 --
 -- THE LOG
 -- 'A log is n, then records': a-log-is-read-back, an-accepted-log-is-what-we-write; `log_of` (eventlog/specs/Log.antt)
@@ -212,8 +214,9 @@
 --   replay-is-starting-and-calls, a-refused-event-ends-the-log, joining-goes-on, joining-stops; `containers_at`, `replay_events` (replay/specs/Replay.antt)
 --
 -- THE PROGRAM
--- '`tally` reads standard input, up to 16,384 bytes, into a new book': the-program-takes-every-n; `printed_of`, `new_storage` (tallytext/specs/Text.antt), by
---   the contract of `run` (tally/src/main.rt), which makes the text of what was read. No theorem says what was read, and that the text is printed
+-- '`tally` reads standard input, up to 16,384 bytes, into a new book': the-program-takes-every-n; `printed_of`,
+--   `new_storage` (tallytext/specs/Text.antt), by the contract of `report_of` (tally/src/main.rt), which makes the text
+--   of what was read. No theorem says what was read, and that the text is printed
 -- 'It writes the holders in ranking order, a line each: holder, size, tags rising, with single spaces': the-text-of-a-complete-replay,
 --   the-lines-of-containers, the-line-of-a-container, the-tags-of-a-line, a-number-is-its-digits, every-line-ends, the-tags-printed-are-flows; that the
 --   whole text has room: the-buffer-of-tally-suffices
@@ -268,21 +271,23 @@
 --   tracker above, the program on top': no theorem; crates.txt at the root
 -- 'The following places have long proofs done by hand, but they too take the named form once the core is complete',
 --   '"The open channels stand in a lent table of 512 records": slice of channel structs for append, shift down and
---   one scan, kept thin, after the core is proved': no theorem; `load`, `store` (flowslice/src/lib.rt)
--- 'For every case of an enum answer, a definition gives this paper's number and values': `answer_of` (calls/specs/Replies.antt), `tags_reply`, `size_reply`,
---   `legal_reply` (question/specs/Replies.antt), `ranked_reply` (ranking/specs/Replies.antt), `ending_of`, `containers_of` (replay/specs/Replies.antt),
---   `reading_of`, `writing_of` (leb128/specs/Answer.antt), `record_reading_of`, `head_reading_of` (eventlog/specs/Answer.antt)
+--   one scan, kept thin, after the core is proved': no theorem; `append`, `remove`, `find`
+--   (flowtable/src/lib.rt)
+-- 'For every case of an enum answer, a definition gives this paper's number and values': `number_of`, `refusal_of`
+--   (refusal/specs/Number.antt), `answer_of` (calls/specs/Replies.antt), `asked_by` (question/specs/Replies.antt),
+--   `refusal_at`, `byte_at` (replay/specs/Replies.antt), `reading_of`, `writing_of` (leb128/specs/Answer.antt),
+--   `record_reading_of` (eventlog/specs/Answer.antt)
 -- 'The promises use that definition': no theorem, but each contract that answers such an enum: those named next
 -- 'If a form is not available today, docs/DECISIONS.md says which form it is and what stands in for it':
 --   docs/DECISIONS.md at the root
 --
 -- AGREED BETWEEN LAB AND BUILDERS
 -- 'The builders agree that every public call has a stated outcome, and that for each input it determines the answer
---   and each byte and word lent, on refusal too': the contracts of `start`, `enable`, `disable`, `add_policy`,
---   `tags_of`, `size_of`, `is_legal`, `rank`, `replay` (tracker/src/lib.rt), `tally` (report/src/lib.rt);
---   the-numbers-tell-replies-apart, the-numbers-tell-answers-apart; of the log `read_record`, `write_record`,
---   `read_head`, `write_head` (eventlog/src/lib.rt), `record-reading-injective`, `head-reading-injective`
---   (eventlog/specs/Laws.antt)
+--   and each byte and word lent, on refusal too': the contracts of `start`, `enable`, `disable`, `add_policy`
+--   (calls/src/lib.rt), `tags_of`, `size_of`, `is_legal` (question/src/lib.rt), `rank` (ranking/src/lib.rt), `replay`
+--   (replay/src/lib.rt), `tally` (report/src/lib.rt); the-numbers-tell-replies-apart, the-numbers-tell-answers-apart;
+--   of the log `read_record`, `write_record`, `read_head`, `write_head` (eventlog/src/lib.rt),
+--   `record-reading-injective` (eventlog/specs/Laws.antt), `reading-injective` (leb128/specs/Laws.antt)
 -- 'The call's contract gives each result as equal to a definition; should these papers leave an answer free, it is
 --   named there, with what holds of it': the same contracts, which leave none free: start-contract, enable-contract,
 --   disable-contract, add-policy-contract, tags-of-contract, size-of-contract, is-legal-contract, rank-contract,
@@ -311,19 +316,21 @@
 --   exported-disable-len-contract, exported-tally-text-contract; a list of exported calls is one of calls:
 --   an-exported-start-counts-as-one, an-exported-call-counts-as-one. The words of these and of the contracts above:
 --   lists, given, Ensures
-use Rattle.std.specs.Prelude.{◌≡◌, refl, Bool, true, false, List, [], ◌∷◌, ◌++◌, map, ◌⊎◌, ◌↔◌, ◌≢◌, ℕ, suc, ◌+◌, ◌*◌, ◌/◌, ◌%◌, ◌^◌, ◌≤◌, ◌<◌, eqb, length, get_or, take, drop}
+use Rattle.std.specs.Prelude.{◌≡◌, refl, Bool, true, false, Option, Result, List, [], ◌∷◌, ◌++◌, map, ◌⊎◌, ◌↔◌, ◌≢◌, ℕ, suc, ◌+◌, ◌*◌, ◌/◌, ◌%◌, ◌^◌, ◌≤◌, ◌<◌, eqb, length, get_or, take, drop}
 use Rattle.std.proofs.Common.{sym, ap, ◌∙◌, subst, ⊎_elim, arith}
 use mathlib.Mathlib.Logic.Relation.{ReflTransGenᴰ}
 use Rattle.std.specs.Int.Count.{ones}
 use Rattle.truth.specs.Truth.{iff}
+use Rattle.refusal.specs.declared.Refusal.{Refusal}
+use Rattle.refusal.specs.Number.{refusal_of}
 use Rattle.refusal.specs.Order.{first_of}
+use Rattle.refusal.proofs.Number.{refusal-injective}
 use Rattle.refusal.proofs.Order.{IsFirst}
-use Rattle.leb128.specs.declared.Encoded.{Encoded}
-use Rattle.leb128.specs.Answer.{refused, wrote, unwritten, writing_of}
+use Rattle.leb128.specs.Answer.{refused, reading_of, wrote, unwritten, writing_of}
 use Rattle.leb128.specs.Number.{IsBytes, overwrite, write_at}
 use Rattle.leb128.specs.Refusals.{IsTruncated, IsOverlong, truncated-refused as number-truncated-refused, overlong-refused as number-overlong-refused, refused-truncated as number-refused-truncated, refused-overlong as number-refused-overlong, reading-cases}
 use Rattle.leb128.specs.Output.{write-fits, write-short}
-use Rattle.leb128.specs.Laws.{writing-injective}
+use Rattle.leb128.specs.Laws.{reading-injective, writing-injective}
 use Rattle.eventlog.specs.declared.Event.{Event as LogEvent}
 use Rattle.eventlog.specs.declared.Event.TheVariants.{Enable, Disable}
 use Rattle.eventlog.specs.Answer.{fields_of, read, unread}
@@ -345,6 +352,7 @@ use Rattle.model.proofs.Propositions.{event-changes-nothing, exec-adds, exact-at
 use Rattle.tagset.specs.declared.TagSet.{TagSet}
 use Rattle.tagset.specs.Set.{has, bit_at, empty_set, size_of, IsWords}
 use Rattle.tagset.proofs.Laws.{size-words}
+use Rattle.state.specs.declared.Header.{Header}
 use Rattle.state.specs.State.{Storage, State, state_of, bad_size, set_at, policy_count, policy_at, flows_of}
 use Rattle.state.specs.Valid.{valid_of}
 use Rattle.state.specs.Layout.{Fit64}
@@ -355,13 +363,12 @@ use Rattle.tagstore.specs.Store.{total_of}
 use Rattle.propagation.specs.Pass.{pass, adds, passed, passes_of, pass_count, sets_after, pairs_added}
 use Rattle.propagation.specs.Exact.{count-is, passes-some, passes-add, passes-last}
 use Rattle.propagation.proofs.Exact.{pass-has, adds-iff}
-use Rattle.calls.specs.declared.Reply.{Reply}
-use Rattle.calls.specs.declared.Answered.{Answered}
-use Rattle.calls.specs.Replies.{answer_of, answer-injective}
+use Rattle.calls.specs.Replies.{answer_of}
+use Rattle.calls.proofs.Replies.{left-injective}
 use Rattle.calls.specs.Unjudged.{apply_enable_of, apply_disable_of}
 use Rattle.calls.specs.UnjudgedLaws.{passes-propagate, passes-gain, apply-enable-refusal, apply-enable-refused, apply-disable-refusal, apply-disable-refused, apply-enable, apply-disable}
-use Rattle.claims.specs.Running.{leaving, StartGave, CallGave, TagsGave, SizeGave, LegalGave, RankGave, RankWrote, running, ReplayGave, with_new_table, TallyAnswered, TallyWrote, TallyLeft, StartDoes, start-does, EnableDoes, enable-does, DisableDoes, disable-does, AddDoes, add-does, Called, called_is, called_of, called_on, tags-given, size-given, legal-given, rank-given, replay-left, tally-left, replay-as-calls, tally-as-calls, replay-begins, tally-begins}
-use Rattle.outcome.specs.Outcome.{Outcome, start_order, enable_later, disable_later, start_of, propagated, gain_of, enable_of, disable_of, add_of, Call, ask, add, order_of, outcome_of, events_of, after, configuration_of}
+use Rattle.claims.specs.Running.{Answered, leaving, StartGave, CallGave, TagsGave, SizeGave, LegalGave, RankGave, RankWrote, running, ReplayGave, with_new_table, TallyAnswered, TallyWrote, TallyLeft, StartDoes, start-does, EnableDoes, enable-does, DisableDoes, disable-does, AddDoes, add-does, Called, called_is, called_of, called_on, tags-given, size-given, legal-given, rank-given, replay-left, tally-left, replay-as-calls, tally-as-calls, replay-begins, tally-begins}
+use Rattle.outcome.specs.Outcome.{Outcome, no_header, start_order, enable_later, disable_later, start_of, propagated, gain_of, enable_of, disable_of, add_of, Call, ask, add, order_of, outcome_of, events_of, after, configuration_of}
 use Rattle.outcome.proofs.Refusals.{start-refusal, start-refused, call-refusal, call-refused}
 use Rattle.outcome.specs.Table.{StartAnswers, EnableAnswers, DisableAnswers, AddAnswers}
 use Rattle.outcome.proofs.Table.{start-answers, enable-answers, disable-answers, add-answers}
@@ -374,22 +381,18 @@ use Rattle.front.proofs.Front.{start-front, call-front, tags-front, size-front, 
 use Rattle.outcome.specs.Effects.{SameBeyond}
 use Rattle.outcome.proofs.Effects.{start_fits, call_fits, start-gains-nothing, start-beyond, call-beyond, list-beyond, disable-tags, add-tags, gain-counted, enable-gain, disable-gain, add-gain}
 use Rattle.outcome.proofs.Follows.{Follows, configuration-has, accepted-joins}
-use Rattle.question.specs.declared.Tags.{Tags}
-use Rattle.question.specs.declared.Size.{Size}
-use Rattle.question.specs.declared.Legal.{Legal}
 use Rattle.question.specs.Question.{Asked, question_order, tags_of, size_asked, policies_of, is_legal, legal_of}
-use Rattle.question.specs.Replies.{told, tags_reply, size_reply, legal_reply, tags-injective, size-injective, legal-injective}
+use Rattle.question.specs.Replies.{told, asked_by}
+use Rattle.question.proofs.Replies.{asked-injective}
 use Rattle.question.specs.Laws.{asked-number, QuestionAnswers, question-answers, tags-told, size-told, legal-told, tags-untold, size-untold, legal-untold, legal-exactly-if, no-policy-not-legal, policy-member}
-use Rattle.ranking.specs.declared.Ranked.{Ranked}
 use Rattle.ranking.specs.Ranking.{ranks_before, ranking_of, SortedBy, Ranking, rank_of, rank_into}
-use Rattle.ranking.specs.Replies.{ranked_reply, ranked-injective}
 use Rattle.ranking.specs.Laws.{ranking-length, ranking-members, RankAnswers, rank-answers, rank-refused, rank-done, rank-into-done, rank-into-none}
 use Rattle.ranking.proofs.Relation.{ranks-before-iff, ranking-sorted, ranking-once, ranking-unique}
-use Rattle.replay.specs.declared.Containers.{Containers}
-use Rattle.replay.specs.declared.Ending.{Ending}
+use Rattle.replay.specs.declared.Stop.{Stop}
 use Rattle.replay.specs.declared.Replayed.{Replayed}
 use Rattle.replay.specs.Replay.{Replay, event_in, call_of, containers_in, replay_of}
-use Rattle.replay.specs.Replies.{ending_of, containers_of, ending-injective, containers-injective}
+use Rattle.replay.specs.Replies.{refusal_at, byte_at}
+use Rattle.replay.proofs.Replies.{stop-injective}
 use Rattle.replay.specs.Laws.{AllAccepted, gains_of, ContainersAnswers, containers-answers, begun-head, replay-not-begun, replay-starts, Replays, replay-log}
 use Rattle.replay.proofs.Laws.{replay-does, replay-log-refused, replay-usable, replay-containers, replay-beyond}
 use Rattle.replay.specs.Joins.{joining, done_of}
@@ -410,9 +413,9 @@ use Rattle.claims.proofs.Permission.{takes-exactly-if, list-follows, policies-ar
 -- THE DEFINITIONS: model/specs/Model.antt (containers, flows, executions; no word of a tracker) and Reach.antt; state/specs/State.antt and
 -- Valid.antt; outcome/specs/Outcome.antt; question/specs/Question.antt; ranking/specs/Ranking.antt; leb128/specs/Number.antt and Answer.antt;
 -- eventlog/specs/Answer.antt and Log.antt; replay/specs/Replay.antt; decimal/specs/Decimal.antt; tallytext/specs/Text.antt; with tagset/specs/Set.antt
--- and refusal/specs/Order.antt (`first_of`, IsFirst). For the running calls: Replies.antt of calls, question, ranking and replay (what the contracts
--- cite), calls/specs/Unjudged.antt, flowslice/specs/Slice.antt, validity/specs/Judge.antt, flowtable/specs/FlowTable.antt, propagation/specs/Pass.antt,
--- tagstore/specs/Store.antt.
+-- and refusal/specs/Order.antt (`first_of`, IsFirst). For the running calls: refusal/specs/Number.antt,
+-- Replies.antt of calls, question and replay (what the contracts cite), calls/specs/Unjudged.antt,
+-- flowtable/specs/FlowTable.antt, propagation/specs/Pass.antt, tagstore/specs/Store.antt.
 -- WORDS OF THE CLAIMS: IsSized, ProperEnds, Rising, IsValid, Usable (state/specs/IsValid.antt); Fit64 (state/specs/Layout.antt); total_of
 -- (tagstore/specs/Store.antt); StartAnswers, Enables, EnableAnswers, DisableAnswers, Adds, AddAnswers (outcome/specs/Table.antt); Sentence,
 -- IsStarted, FlowsChanged (Steps.antt); PolicyAdded (Policies.antt); SameBeyond (Effects.antt); Follows (Follows.antt); QuestionAnswers
@@ -975,30 +978,34 @@ the-tags-printed-are-flows bs lent are b c t l =
 pub the-events-printed-are-those-done : (bs : List ℕ) (lent : Storage) → IsBytes bs → (containers_in bs lent).refusal ≡ 0 → (replay_of bs lent).events ≡ length (done_of bs)
 the-events-printed-are-those-done bs lent are b = (replay-does bs lent are b).events ∙ ap length (replay-done bs lent are b)
 
--- THE RUNNING CALLS (tracker/src/lib.rt). The contract of each says that what the call gives back and leaves in the
--- lent lists (`leaving`) makes up the outcome of its definition, for every number and every content and length of
--- storage. That is the hypothesis here (`StartGave`, `CallGave` and their like, Running.antt), and Tie.antt says that
--- it is the whole contract, which requires nothing. So what is claimed above of the definitions is true of the calls,
--- one by one. (`IsBytes`, of a log: each number is below 256, as those of a `&[u8]` are.)
+-- THE RUNNING CALLS (tracker/src/lib.rt has them in one place; calls, question, ranking and replay their contracts). The
+-- contract of each says that what the call gives back and leaves in the lent lists (`leaving`) makes up the outcome of
+-- its definition, for every number and every content and length of storage. That is the hypothesis here (`StartGave`,
+-- `CallGave` and their like, Running.antt), and Tie.antt says that it is the whole contract, which requires nothing. So
+-- what is claimed above of the definitions is true of the calls, one by one. (`IsBytes`, of a log: each number is below
+-- 256, as those of a `&[u8]` are.)
 
--- the numbers that a contract gives determine the reply
-pub the-numbers-tell-replies-apart : (q r : Reply) → answer_of q ≡ answer_of r → q ≡ r
-the-numbers-tell-replies-apart = answer-injective
+-- the numbers and the header that a contract gives determine the answer
+pub the-numbers-tell-replies-apart : (q r : Answered) (h : Header) (left : Storage)
+    → leaving q h left ≡ leaving r h left → q ≡ r
+the-numbers-tell-replies-apart q r h left =
+    left-injective q r h left.tags left.policies left.policy_counts left.flows
 
 -- whatever is true of the outcome, the answer, the ranking or the run of a definition is true of what the call gave
 pub what-is-true-of-a-definition-is-true-of-the-call :
     ((n : ℕ) (lent : Storage) (r : Answered) (left : Storage) → StartGave n lent r left
-    → (P : Outcome → Type 0) → P (start_of n lent) → P (leaving r left))
+    → (P : Outcome → Type 0) → P (start_of n lent) → P (leaving r no_header left))
     × ((s : State) (c : Call) (r : Answered) (left : Storage) → CallGave s c r left
-    → (P : Outcome → Type 0) → P (outcome_of s c) → P (leaving r left))
-    × ((s : State) (c : ℕ) (r : Tags) → TagsGave s c r
-    → (P : Asked TagSet → Type 0) → P (tags_of s c) → P (tags_reply r))
-    × ((s : State) (c : ℕ) (r : Size) → SizeGave s c r
-    → (P : Asked ℕ → Type 0) → P (size_asked s c) → P (size_reply r))
-    × ((s : State) (c : ℕ) (r : Legal) → LegalGave s c r
-    → (P : Asked Bool → Type 0) → P (legal_of s c) → P (legal_reply r))
-    × ((s : State) (out : List ℕ) (r : Ranked) (written : List ℕ) → RankGave s out r → RankWrote s out written
-    → (P : Ranking → Type 0) → P (rank_of s out) → P (record { refusal = ranked_reply r; output = written }))
+    → (P : Outcome → Type 0) → P (outcome_of s c) → P (leaving r s.header left))
+    × ((s : State) (c : ℕ) (r : Result TagSet Refusal) → TagsGave s c r
+    → (P : Asked TagSet → Type 0) → P (tags_of s c) → P (asked_by empty_set r))
+    × ((s : State) (c : ℕ) (r : Result ℕ Refusal) → SizeGave s c r
+    → (P : Asked ℕ → Type 0) → P (size_asked s c) → P (asked_by 0 r))
+    × ((s : State) (c : ℕ) (r : Result Bool Refusal) → LegalGave s c r
+    → (P : Asked Bool → Type 0) → P (legal_of s c) → P (asked_by false r))
+    × ((s : State) (out : List ℕ) (r : Result (Unit {0}) Refusal) (written : List ℕ)
+    → RankGave s out r → RankWrote s out written
+    → (P : Ranking → Type 0) → P (rank_of s out) → P (record { refusal = refusal_of r; output = written }))
     × ((bs : List ℕ) (lent : Storage) (r : Replayed) (left : Storage) → ReplayGave bs lent r left
     → (P : Replay → Type 0) → P (replay_of bs lent) → P (running r left))
 what-is-true-of-a-definition-is-true-of-the-call = (
@@ -1013,29 +1020,29 @@ what-is-true-of-a-definition-is-true-of-the-call = (
 
 -- `start`: StartDoes gathers what is claimed of it (demand 1)
 pub what-start-does : (n : ℕ) (lent : Storage) (r : Answered) (left : Storage) → StartGave n lent r left
-    → StartDoes n lent (leaving r left)
+    → StartDoes n lent (leaving r no_header left)
 what-start-does n lent r left e = subst (StartDoes n lent) (sym e) (start-does n lent)
 
 -- `enable`: EnableDoes (demands 1 and 2)
 pub what-enable-does : (s : State) (f : Flow) (r : Answered) (left : Storage) → CallGave s (ask (enable f)) r left
-    → EnableDoes s f (leaving r left)
+    → EnableDoes s f (leaving r s.header left)
 unfolding outcome_of
 what-enable-does s f r left e = subst (EnableDoes s f) (sym e) (enable-does s f)
 
 -- `disable`: DisableDoes (demands 1 and 2)
 pub what-disable-does : (s : State) (k : ℕ) (r : Answered) (left : Storage) → CallGave s (ask (disable k)) r left
-    → DisableDoes s k (leaving r left)
+    → DisableDoes s k (leaving r s.header left)
 unfolding outcome_of
 what-disable-does s k r left e = subst (DisableDoes s k) (sym e) (disable-does s k)
 
 -- `add_policy`: AddDoes (demand 1)
 pub what-add-policy-does : (s : State) (c : ℕ) (p : TagSet) (r : Answered) (left : Storage) → CallGave s (add c p) r left
-    → AddDoes s c p (leaving r left)
+    → AddDoes s c p (leaving r s.header left)
 unfolding outcome_of
 what-add-policy-does s c p r left e = subst (AddDoes s c p) (sym e) (add-does s c p)
 
--- `apply_enable` and `apply_disable` (calls/src/lib.rt), on a table by value, which judge no state. On every state they answer the first refusal that stands after 9 and 12 in the event's order,
--- and a refused event changes nothing
+-- `apply_enable` and `apply_disable` (calls/src/lib.rt), which judge no state. On every state they answer the first
+-- refusal that stands after 9 and 12 in the event's order, and a refused event changes nothing
 pub apply-enable-answers-the-first : (s : State) (f : Flow) (k : ℕ) → ((apply_enable_of s f).answer.refusal ≡ suc k) ↔ IsFirst (enable_later s f) (suc k)
 apply-enable-answers-the-first = apply-enable-refusal
 
@@ -1060,15 +1067,22 @@ apply-disable-is-disable = apply-disable
 -- `tags_of`, `size_of`, `is_legal`, `rank`, `read_containers`, `replay`: a contract gives the numbers of the answer (and the output, the lent lists) by the
 -- definition; these determine the answer
 pub the-numbers-tell-answers-apart :
-    ((q r : Tags) → tags_reply q ≡ tags_reply r → q ≡ r)
-    × ((q r : Size) → size_reply q ≡ size_reply r → q ≡ r)
-    × ((q r : Legal) → legal_reply q ≡ legal_reply r → q ≡ r)
-    × ((q r : Ranked) → ranked_reply q ≡ ranked_reply r → q ≡ r)
-    × ((q r : Containers) → containers_of q ≡ containers_of r → q ≡ r)
-    × ((q r : Ending) → ending_of q ≡ ending_of r → q ≡ r)
-    × ((q r : Encoded) → writing_of q ≡ writing_of r → q ≡ r)
-the-numbers-tell-answers-apart =
-    (tags-injective, size-injective, legal-injective, ranked-injective, containers-injective, ending-injective, writing-injective)
+    ((q r : Result TagSet Refusal) → asked_by empty_set q ≡ asked_by empty_set r → q ≡ r)
+    × ((q r : Result ℕ Refusal) → asked_by 0 q ≡ asked_by 0 r → q ≡ r)
+    × ((q r : Result Bool Refusal) → asked_by false q ≡ asked_by false r → q ≡ r)
+    × ((q r : Result (Unit {0}) Refusal) → refusal_of q ≡ refusal_of r → q ≡ r)
+    × ((q r : Result (ℕ × ℕ) Refusal) → reading_of q ≡ reading_of r → q ≡ r)
+    × ((q r : Option Stop) → refusal_at q ≡ refusal_at r → byte_at q ≡ byte_at r → q ≡ r)
+    × ((q r : Result ℕ Refusal) → writing_of q ≡ writing_of r → q ≡ r)
+the-numbers-tell-answers-apart = (
+  asked-injective empty_set,
+  asked-injective 0,
+  asked-injective false,
+  refusal-injective,
+  reading-injective,
+  stop-injective,
+  writing-injective,
+)
 
 -- so of a replay that runs: it is starting and the calls of the events that its bytes hold and that join, or it changes nothing
 pub what-replay-does : (bs : List ℕ) (lent : Storage) (r : Replayed) (left : Storage) → ReplayGave bs lent r left
@@ -1156,10 +1170,11 @@ pub calls-can-go-on : (n : ℕ) (lent : Storage) (done : List Call) (s : State) 
 calls-can-go-on = called_on
 
 pub every-question-can-be-asked : (s : State) (c : ℕ)
-    → ((r : Tags) × TagsGave s c r) × ((r : Size) × SizeGave s c r) × ((r : Legal) × LegalGave s c r)
+    → ((r : Result TagSet Refusal) × TagsGave s c r) × ((r : Result ℕ Refusal) × SizeGave s c r)
+    × ((r : Result Bool Refusal) × LegalGave s c r)
 every-question-can-be-asked s c = (tags-given s c, size-given s c, legal-given s c)
 
-pub every-ranking-can-be-asked-for : (s : State) (out : List ℕ) → (r : Ranked) × RankGave s out r
+pub every-ranking-can-be-asked-for : (s : State) (out : List ℕ) → (r : Result (Unit {0}) Refusal) × RankGave s out r
 every-ranking-can-be-asked-for = rank-given
 
 pub every-replay-can-be-made : (bs : List ℕ) (lent : Storage) → IsBytes bs
@@ -1215,7 +1230,7 @@ module _ (n : ℕ) (lent : Storage) (calls : List Call) (s : State) (made : Call
 
   -- the next call is refused neither for its storage nor for its state
   pub called-answers-no-9-or-12 : (c : Call) (r : Answered) (left : Storage) → CallGave s c r left
-      → ((answer_of r.reply).refusal ≢ 9) × ((answer_of r.reply).refusal ≢ 12)
+      → ((answer_of r).refusal ≢ 9) × ((answer_of r).refusal ≢ 12)
   called-answers-no-9-or-12 c r left q =
       subst (λ (o : Outcome). (o.answer.refusal ≢ 9) × (o.answer.refusal ≢ 12)) (sym q) (usable-answers s c called-follows.usable)
 
@@ -1230,9 +1245,9 @@ module _ (n : ℕ) (lent : Storage) (calls : List Call) (s : State) (made : Call
   answered = rw (sym same-state) (questions-are-answered n lent (called_is made).0 calls)
 
   pub called-every-question-is-answered : (c : ℕ) → c < n
-      → ((r : Tags) → TagsGave s c r → (tags_reply r).refusal ≡ 0)
-      × ((r : Size) → SizeGave s c r → (size_reply r).refusal ≡ 0)
-      × ((r : Legal) → LegalGave s c r → (legal_reply r).refusal ≡ 0)
+      → ((r : Result TagSet Refusal) → TagsGave s c r → (asked_by empty_set r).refusal ≡ 0)
+      × ((r : Result ℕ Refusal) → SizeGave s c r → (asked_by 0 r).refusal ≡ 0)
+      × ((r : Result Bool Refusal) → LegalGave s c r → (asked_by false r).refusal ≡ 0)
   called-every-question-is-answered c l =
       let a = answered c l in (
         λ r e. ap (λ (x : Asked TagSet). x.refusal) e ∙ a.0,
@@ -1240,17 +1255,17 @@ module _ (n : ℕ) (lent : Storage) (calls : List Call) (s : State) (made : Call
         λ r e. ap (λ (x : Asked Bool). x.refusal) e ∙ a.2,
       )
 
-  pub called-tags-are-flows : (c t : ℕ) → c < n → (r : Tags) → TagsGave s c r
-      → (has r.set t ≡ true) ↔ Flows n (accepted n (events_of calls)) t c
+  pub called-tags-are-flows : (c t : ℕ) → c < n → (r : Result TagSet Refusal) → TagsGave s c r
+      → (has (asked_by empty_set r).value t ≡ true) ↔ Flows n (accepted n (events_of calls)) t c
   called-tags-are-flows c t l r e =
-      let told : r.set ≡ set_at s.storage.tags c =
+      let told : (asked_by empty_set r).value ≡ set_at s.storage.tags c =
       ap (λ (x : Asked TagSet). x.value) e ∙ tags-told s c (answered c l).0 in
       rw told (called-sets-are-flows c t l)
 
   pub called-no-other-container-is-told : (c : ℕ) → n ≤ c
-      → ((r : Tags) → TagsGave s c r → (tags_reply r).refusal ≡ 4)
-      × ((r : Size) → SizeGave s c r → (size_reply r).refusal ≡ 4)
-      × ((r : Legal) → LegalGave s c r → (legal_reply r).refusal ≡ 4)
+      → ((r : Result TagSet Refusal) → TagsGave s c r → (asked_by empty_set r).refusal ≡ 4)
+      × ((r : Result ℕ Refusal) → SizeGave s c r → (asked_by 0 r).refusal ≡ 4)
+      × ((r : Result Bool Refusal) → LegalGave s c r → (asked_by false r).refusal ≡ 4)
   called-no-other-container-is-told c l =
       let a : ((tags_of s c).refusal ≡ 4) × ((size_asked s c).refusal ≡ 4) × ((legal_of s c).refusal ≡ 4) =
       rw (sym same-state) (others-are-no-container n lent (called_is made).0 calls c l) in (
@@ -1260,7 +1275,7 @@ module _ (n : ℕ) (lent : Storage) (calls : List Call) (s : State) (made : Call
       )
 
   pub called-the-ranking-is-written : (out : List ℕ) → n ≤ length out
-      → ((r : Ranked) → RankGave s out r → ranked_reply r ≡ 0)
+      → ((r : Result (Unit {0}) Refusal) → RankGave s out r → refusal_of r ≡ 0)
       × ((written : List ℕ) → RankWrote s out written → written ≡ ranking_of n s.storage.tags ++ drop n out)
   called-the-ranking-is-written out l =
       let a : (rank_of s out).refusal ≡ 0 =
@@ -1271,15 +1286,16 @@ module _ (n : ℕ) (lent : Storage) (calls : List Call) (s : State) (made : Call
   -- the next policy set is accepted exactly if the container takes it
   pub called-add-accepted-exactly-if-taken : (c : ℕ) (p : TagSet) (r : Answered) (left : Storage)
       → CallGave s (add c p) r left
-      → ((answer_of r.reply).refusal ≡ 0) ↔ (takes n c (given_to n c [] calls) c p ≡ true)
+      → ((answer_of r).refusal ≡ 0) ↔ (takes n c (given_to n c [] calls) c p ≡ true)
   called-add-accepted-exactly-if-taken c p r left q =
       subst (λ (o : Outcome). (o.answer.refusal ≡ 0) ↔ (takes n c (given_to n c [] calls) c p ≡ true)) (sym q)
       (subst (λ (s : State). ((outcome_of s (add c p)).answer.refusal ≡ 0) ↔ (takes n c (given_to n c [] calls) c p ≡ true)) same-state
       (add-accepted-exactly-if-taken n lent (called_is made).0 calls c p))
 
   -- what `is_legal` then answers
-  pub called-legal-exactly-if-flows-permit : (c : ℕ) → c < n → (r : Legal) → LegalGave s c r
-      → (legal_reply r ≡ told true) ↔ ((p : TagSet) × (p ∈ given_to n c [] calls) × ((t : ℕ) → Flows n (accepted n (events_of calls)) t c → has p t ≡ true))
+  pub called-legal-exactly-if-flows-permit : (c : ℕ) → c < n → (r : Result Bool Refusal) → LegalGave s c r
+      → (asked_by false r ≡ told true)
+      ↔ ((p : TagSet) × (p ∈ given_to n c [] calls) × ((t : ℕ) → Flows n (accepted n (events_of calls)) t c → has p t ≡ true))
   called-legal-exactly-if-flows-permit c l r e =
       rw e
       (subst
@@ -1289,7 +1305,7 @@ module _ (n : ℕ) (lent : Storage) (calls : List Call) (s : State) (made : Call
 
   -- the next call that runs, whatever its event, is accepted exactly if the event joins
   pub called-accepted-exactly-if-it-joins : (e : Event) (r : Answered) (left : Storage) → CallGave s (ask e) r left
-      → ((answer_of r.reply).refusal ≡ 0) ↔ (joins n (accepted n (events_of calls)) e ≡ true)
+      → ((answer_of r).refusal ≡ 0) ↔ (joins n (accepted n (events_of calls)) e ≡ true)
   called-accepted-exactly-if-it-joins e r left q =
       subst (λ (o : Outcome). (o.answer.refusal ≡ 0) ↔ (joins n (accepted n (events_of calls)) e ≡ true)) (sym q)
       (subst (λ (s : State). ((outcome_of s (ask e)).answer.refusal ≡ 0) ↔ (joins n (accepted n (events_of calls)) e ≡ true)) same-state

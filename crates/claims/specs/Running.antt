@@ -1,52 +1,41 @@
--- The running calls. A call's contract (tracker/src/lib.rt) says that what it gives back and leaves makes up the outcome
--- of its definition; so all that is claimed of the outcome is true of the call. Here: what the contracts say, what is
--- true of each call, and of calls one after the other. Assumes nothing.
-use Rattle.std.specs.Prelude.{◌≡◌, refl, List, [], ◌∷◌, ◌++◌, map, ◌↔◌, ◌≢◌, ℕ, zero, suc, ◌+◌, ◌≤◌, length, replicate}
-use Rattle.std.proofs.Common.{sym, ap, ◌∙◌, subst, append_assoc, append-nil, arith}
+-- The running calls. A call's contract (calls, question, ranking and replay, src/lib.rt) says that what it gives back
+-- and leaves makes up the outcome of its definition; so all that is claimed of the outcome is true of the call. Here:
+-- what the contracts say, what is true of each call, and of calls one after the other. Assumes nothing.
+use Rattle.std.specs.Prelude.{◌≡◌, refl, Bool, Result, Ok, Err, Some, None, ◌⊎◌, List, [], ◌∷◌, ◌++◌, map, ◌↔◌, ℕ, zero, suc, ◌+◌, ◌≤◌, length, replicate}
+use Rattle.std.proofs.Common.{sym, ap, ◌∙◌, subst, inl, inr, ⊎_elim, append_assoc, append-nil, arith}
 use Rattle.std.proofs.Math.Bool.{false}
 use Rattle.std.proofs.Math.Logic.{by_cases}
 use Rattle.std.proofs.Math.Decide.{dec_lt}
+use Rattle.refusal.specs.declared.Refusal.{Refusal}
+use Rattle.refusal.specs.declared.Refusal.TheVariants.{Truncated, Overlong, UnknownKind, NoSuchContainer, SelfFlow, StaleNumber, TableFull, NotEnabled, BadSize, ShortOutput, PolicyFull, InvalidState}
+use Rattle.refusal.specs.Number.{number_of, refusal_of}
 use Rattle.refusal.specs.Order.{first_of}
+use Rattle.refusal.proofs.Number.{number-positive}
 use Rattle.model.specs.declared.Flow.{Flow}
 use Rattle.model.specs.Model.{enable, disable, without}
 use Rattle.tagset.specs.declared.TagSet.{TagSet}
 use Rattle.tagset.specs.Set.{empty_set, size_of}
+use Rattle.state.specs.declared.Header.{Header}
 use Rattle.state.specs.State.{Storage, State, storage_of, state_of, set_at, flows_of, no_flow}
 use Rattle.state.specs.Layout.{Fit64}
 use Rattle.state.specs.IsValid.{IsValid, Usable}
 use Rattle.tagstore.specs.Store.{total_of}
-use Rattle.calls.specs.declared.Answered.{Answered}
-use Rattle.calls.specs.declared.Reply.{Reply}
-use Rattle.calls.specs.declared.Reply.TheVariants.{Accepted, NoSuchContainer, SelfFlow, StaleNumber, TableFull, NotEnabled, BadSize, PolicyFull, InvalidState}
-use Rattle.calls.specs.Replies.{answer_of, given_back, left_by}
-use Rattle.question.specs.declared.Tags.{Tags}
-use Rattle.question.specs.declared.Asking.{Asking}
-use Rattle.question.specs.declared.Asking.TheVariants.{Fine, NoSuchContainer as AskingNoSuchContainer, BadSize as AskingBadSize, InvalidState as AskingInvalidState}
-use Rattle.question.specs.declared.Size.{Size}
-use Rattle.question.specs.declared.Size.TheVariants.{Is as SizeIs, NoSuchContainer as SizeNoSuchContainer, BadSize as SizeBadSize, InvalidState as SizeInvalidState}
-use Rattle.question.specs.declared.Legal.{Legal}
-use Rattle.question.specs.declared.Legal.TheVariants.{Is as LegalIs, NoSuchContainer as LegalNoSuchContainer, BadSize as LegalBadSize, InvalidState as LegalInvalidState}
-use Rattle.question.specs.Question.{Asked, question_order, tags_of, size_asked, is_legal, legal_of}
-use Rattle.question.specs.Replies.{asking_of, tags_reply, size_reply, legal_reply}
-use Rattle.question.specs.Laws.{asked-number, size-untold, legal-untold, QuestionAnswers, question-answers, bad-size as short-question, invalid-state as invalid-question, no-such-container as no-container, answered}
-use Rattle.ranking.specs.declared.Ranked.{Ranked}
-use Rattle.ranking.specs.declared.Ranked.TheVariants.{Done, BadSize as RankedBadSize, ShortOutput as RankedShortOutput, InvalidState as RankedInvalidState}
+use Rattle.calls.specs.declared.Accepted.{Accepted}
+use Rattle.calls.specs.Replies.{answer_of, left_by}
+use Rattle.question.specs.Question.{question_order, asked, tags_of, size_asked, is_legal, legal_of}
+use Rattle.question.specs.Replies.{asked_by}
+use Rattle.question.specs.Laws.{asked-told, asked-refused, QuestionAnswers, question-answers, bad-size as short-question, invalid-state as invalid-question, no-such-container as no-container, answered}
 use Rattle.ranking.specs.Ranking.{rank_of}
-use Rattle.ranking.specs.Replies.{ranked_reply}
 use Rattle.ranking.specs.Laws.{RankAnswers, rank-answers, bad-size as rank-bad-size, invalid-state as rank-invalid-state, short-output, done as ranked}
-use Rattle.leb128.specs.declared.Encoded.{Encoded}
-use Rattle.leb128.specs.declared.Encoded.TheVariants.{Next, ShortOutput}
 use Rattle.leb128.specs.Answer.{writing_of}
 use Rattle.leb128.specs.Number.{IsBytes, Written, write_at}
 use Rattle.leb128.specs.Output.{write-fits, write-short}
 use Rattle.eventlog.specs.Log.{head_at}
 use Rattle.eventlog.specs.declared.Event.{Event as LogEvent}
-use Rattle.replay.specs.declared.Ending.{Ending}
-use Rattle.replay.specs.declared.Ending.TheVariants.{Complete, Truncated, Overlong, UnknownKind, NoSuchContainer as EndNoSuchContainer, SelfFlow as EndSelfFlow, StaleNumber as EndStaleNumber, TableFull as EndTableFull, NotEnabled as EndNotEnabled, BadSize as EndBadSize}
 use Rattle.replay.specs.declared.Replayed.{Replayed}
 use Rattle.replay.specs.Replay.{Replay, call_of, containers_in, replay_of}
-use Rattle.replay.specs.Replies.{ending_of, replay_by}
-use Rattle.replay.specs.Laws.{replay-starts}
+use Rattle.replay.specs.Replies.{replay_by}
+use Rattle.replay.specs.Laws.{by-begun, replay-starts}
 use Rattle.replay.proofs.Laws.{replay-does}
 use Rattle.replay.specs.Joins.{done_of}
 use Rattle.replay.proofs.Joins.{replay-done}
@@ -68,31 +57,35 @@ use Rattle.outcome.proofs.Effects.{disable-tags, add-tags, enable-gain, disable-
 -- definition. Tie.antt: the clauses of each call are this, and nothing is required. So a hypothesis of the claims on
 -- running calls is what the contract of the call ensures
 
--- the outcome that an answer and the lists make up
-abbrev pub leaving : Answered → Storage → Outcome
-leaving r left = left_by r left.tags left.policies left.policy_counts left.flows
+-- what a start, an event or adding a policy set answers
+abbrev pub Answered : Type 0
+Answered = Result Accepted Refusal
+
+-- the outcome that the answer to such a call on header h and the lists make up
+abbrev pub leaving : Answered → Header → Storage → Outcome
+leaving r h left = left_by r h left.tags left.policies left.policy_counts left.flows
 
 -- `start`
 abbrev pub StartGave : ℕ → Storage → Answered → Storage → Type 0
-StartGave n lent r left = leaving r left ≡ start_of n lent
+StartGave n lent r left = leaving r no_header left ≡ start_of n lent
 
 -- `enable`, `disable`, `add_policy`
 abbrev pub CallGave : State → Call → Answered → Storage → Type 0
-CallGave s c r left = leaving r left ≡ outcome_of s c
+CallGave s c r left = leaving r s.header left ≡ outcome_of s c
 
 -- `tags_of`, `size_of`, `is_legal`
-abbrev pub TagsGave : State → ℕ → Tags → Type 0
-TagsGave s c r = tags_reply r ≡ tags_of s c
+abbrev pub TagsGave : State → ℕ → Result TagSet Refusal → Type 0
+TagsGave s c r = asked_by empty_set r ≡ tags_of s c
 
-abbrev pub SizeGave : State → ℕ → Size → Type 0
-SizeGave s c r = size_reply r ≡ size_asked s c
+abbrev pub SizeGave : State → ℕ → Result ℕ Refusal → Type 0
+SizeGave s c r = asked_by 0 r ≡ size_asked s c
 
-abbrev pub LegalGave : State → ℕ → Legal → Type 0
-LegalGave s c r = legal_reply r ≡ legal_of s c
+abbrev pub LegalGave : State → ℕ → Result Bool Refusal → Type 0
+LegalGave s c r = asked_by false r ≡ legal_of s c
 
 -- `rank`: its answer, and the output that it wrote
-abbrev pub RankGave : State → List ℕ → Ranked → Type 0
-RankGave s out r = ranked_reply r ≡ (rank_of s out).refusal
+abbrev pub RankGave : State → List ℕ → Result (Unit {0}) Refusal → Type 0
+RankGave s out r = refusal_of r ≡ (rank_of s out).refusal
 
 abbrev pub RankWrote : State → List ℕ → List ℕ → Type 0
 RankWrote s out written = written ≡ (rank_of s out).output
@@ -234,11 +227,11 @@ add-does s c p =
 -- CALLS ONE AFTER THE OTHER: a start that was accepted, then calls, each on the header that the call before gave back
 -- and the lists that it left, refused or not. What is known of each call is what its contract says, and no more
 pub data Called (n : ℕ) (lent : Storage) : List Call → State → Type 0 where
-  begun : (r : Answered) (left : Storage) → StartGave n lent r left → (answer_of r.reply).refusal ≡ 0
-      → Called n lent [] (leaving r left).state
+  begun : (r : Answered) (left : Storage) → StartGave n lent r left → (answer_of r).refusal ≡ 0
+      → Called n lent [] (leaving r no_header left).state
   called : {cs : List Call} {s : State} → Called n lent cs s
       → (c : Call) (r : Answered) (left : Storage) → CallGave s c r left
-      → Called n lent (cs ++ (c ∷ [])) (leaving r left).state
+      → Called n lent (cs ++ (c ∷ [])) (leaving r s.header left).state
 
 -- one call more at the end of a list
 after_last : (cs : List Call) (s : State) (c : Call) → after s (cs ++ (c ∷ [])) ≡ (outcome_of (after s cs) c).state
@@ -257,81 +250,107 @@ called_is {n} {lent} (called {cs} {s} x c r left e) =
 
 -- WHAT IS KNOWN OF THE CALLS CAN BE MET, for every list of them
 
--- an answer that a reply stands for
-abbrev HasReply : ℕ → ℕ → Type 0
-HasReply k gain = (reply : Reply) × (answer_of reply ≡ record { refusal = k; gain = gain })
+-- nothing is refused, or it is a refusal's number
+abbrev Said : ℕ → Type 0
+Said k = (k ≡ 0) ⊎ ((q : Refusal) × (number_of q ≡ k))
 
--- a refusal gains nothing
-refusing : {k gain : ℕ} (reply : Reply) → answer_of reply ≡ record { refusal = k; gain = 0 } → gain ≡ 0 → HasReply k gain
-refusing reply e g = (reply, rw g e)
+-- so it is with each number of the tables
+enable-said : (s : State) (f : Flow) {k : ℕ} → EnableAnswers s f k → Said k
+enable-said s f (bad-size z) = inr (BadSize, refl)
+enable-said s f (invalid-state z v) = inr (InvalidState, refl)
+enable-said s f (no-such-from u a) = inr (NoSuchContainer, refl)
+enable-said s f (no-such-to u a b) = inr (NoSuchContainer, refl)
+enable-said s f (self-flow u a b c) = inr (SelfFlow, refl)
+enable-said s f (stale-number u p a) = inr (StaleNumber, refl)
+enable-said s f (table-full u p a b) = inr (TableFull, refl)
+enable-said s f (accepted e) = inl refl
 
--- each number of the tables has its reply
-enable-reply : (s : State) (f : Flow) {k gain : ℕ} → EnableAnswers s f k → (k ≢ 0 → gain ≡ 0) → HasReply k gain
-enable-reply s f (bad-size z) g = refusing BadSize refl (g (λ e. omega (arith, e)))
-enable-reply s f (invalid-state z v) g = refusing InvalidState refl (g (λ e. omega (arith, e)))
-enable-reply s f (no-such-from u a) g = refusing NoSuchContainer refl (g (λ e. omega (arith, e)))
-enable-reply s f (no-such-to u a b) g = refusing NoSuchContainer refl (g (λ e. omega (arith, e)))
-enable-reply s f (self-flow u a b c) g = refusing SelfFlow refl (g (λ e. omega (arith, e)))
-enable-reply s f (stale-number u p a) g = refusing StaleNumber refl (g (λ e. omega (arith, e)))
-enable-reply s f (table-full u p a b) g = refusing TableFull refl (g (λ e. omega (arith, e)))
-enable-reply s f {gain = gain} (accepted e) g = (Accepted gain, refl)
+disable-said : (s : State) (n : ℕ) {k : ℕ} → DisableAnswers s n k → Said k
+disable-said s n (bad-size z) = inr (BadSize, refl)
+disable-said s n (invalid-state z v) = inr (InvalidState, refl)
+disable-said s n (not-enabled u a) = inr (NotEnabled, refl)
+disable-said s n (accepted u f i e) = inl refl
 
-disable-reply : (s : State) (n : ℕ) {k gain : ℕ} → DisableAnswers s n k → (k ≢ 0 → gain ≡ 0) → HasReply k gain
-disable-reply s n (bad-size z) g = refusing BadSize refl (g (λ e. omega (arith, e)))
-disable-reply s n (invalid-state z v) g = refusing InvalidState refl (g (λ e. omega (arith, e)))
-disable-reply s n (not-enabled u a) g = refusing NotEnabled refl (g (λ e. omega (arith, e)))
-disable-reply s n {gain = gain} (accepted u f i e) g = (Accepted gain, refl)
+add-said : (s : State) (c : ℕ) (p : TagSet) {k : ℕ} → AddAnswers s c p k → Said k
+add-said s c p (bad-size z) = inr (BadSize, refl)
+add-said s c p (invalid-state z v) = inr (InvalidState, refl)
+add-said s c p (no-such-container u a) = inr (NoSuchContainer, refl)
+add-said s c p (unknown-tag u a t h b) = inr (NoSuchContainer, refl)
+add-said s c p (policy-full u a h b) = inr (PolicyFull, refl)
+add-said s c p (accepted e) = inl refl
 
-add-reply : (s : State) (c : ℕ) (p : TagSet) {k gain : ℕ} → AddAnswers s c p k → (k ≢ 0 → gain ≡ 0) → HasReply k gain
-add-reply s c p (bad-size z) g = refusing BadSize refl (g (λ e. omega (arith, e)))
-add-reply s c p (invalid-state z v) g = refusing InvalidState refl (g (λ e. omega (arith, e)))
-add-reply s c p (no-such-container u a) g = refusing NoSuchContainer refl (g (λ e. omega (arith, e)))
-add-reply s c p (unknown-tag u a t h b) g = refusing NoSuchContainer refl (g (λ e. omega (arith, e)))
-add-reply s c p (policy-full u a h b) g = refusing PolicyFull refl (g (λ e. omega (arith, e)))
-add-reply s c p {gain = gain} (accepted e) g = (Accepted gain, refl)
-
--- what a call asks for can be given back
-call-reply : (s : State) (c : Call) → HasReply (outcome_of s c).answer.refusal (outcome_of s c).answer.gain
+call-said : (s : State) (c : Call) → Said (outcome_of s c).answer.refusal
 unfolding outcome_of
-call-reply s (ask (enable f)) = enable-reply s f ((enable-answers s f (enable_of s f).answer.refusal).0 refl) (λ n. (call-unaccepted s (ask (enable f)) n).1)
-call-reply s (ask (disable k)) = disable-reply s k ((disable-answers s k (disable_of s k).answer.refusal).0 refl) (λ n. (call-unaccepted s (ask (disable k)) n).1)
-call-reply s (add c p) = add-reply s c p ((add-answers s c p (add_of s c p).answer.refusal).0 refl) (λ n. (call-unaccepted s (add c p) n).1)
+call-said s (ask (enable f)) = enable-said s f ((enable-answers s f (enable_of s f).answer.refusal).0 refl)
+call-said s (ask (disable k)) = disable-said s k ((disable-answers s k (disable_of s k).answer.refusal).0 refl)
+call-said s (add c p) = add-said s c p ((add-answers s c p (add_of s c p).answer.refusal).0 refl)
 
 -- the outcome of a call is left by some answer
 pub call-left : (s : State) (c : Call) → (r : Answered) × CallGave s c r (outcome_of s c).state.storage
 call-left s c =
     let o = outcome_of s c in
-    let w = call-reply s c in
-    (given_back w.0 o.state.header, λ i. record { answer = w.1 i; state = o.state })
+    ⊎_elim
+    (λ z. (
+      Ok (record { header = o.state.header; gain = o.answer.gain }),
+      λ i. record { answer = record { refusal = sym z i; gain = o.answer.gain }; state = o.state },
+    ))
+    (λ w.
+    let same = call-unaccepted s c (λ z. omega (arith, z, w.1, number-positive w.0)) in
+    let state : ◌≡◌ {A = State} (record { header = s.header; storage = o.state.storage }) o.state =
+    λ i. record { header = (sym same.0 i).header; storage = o.state.storage } in
+    (Err w.0, λ i. record { answer = record { refusal = w.1 i; gain = sym same.1 i }; state = state i }))
+    (call-said s c)
 
--- the run of a replay is given back with some ending
-ending-for : (k : ℕ) → k ≤ 9 → (e : Ending) × (ending_of e ≡ k)
-ending-for zero l = (Complete, refl)
-ending-for (suc zero) l = (Truncated, refl)
-ending-for (suc (suc zero)) l = (Overlong, refl)
-ending-for (suc (suc (suc zero))) l = (UnknownKind, refl)
-ending-for (suc (suc (suc (suc zero)))) l = (EndNoSuchContainer, refl)
-ending-for (suc (suc (suc (suc (suc zero))))) l = (EndSelfFlow, refl)
-ending-for (suc (suc (suc (suc (suc (suc zero)))))) l = (EndStaleNumber, refl)
-ending-for (suc (suc (suc (suc (suc (suc (suc zero))))))) l = (EndTableFull, refl)
-ending-for (suc (suc (suc (suc (suc (suc (suc (suc zero)))))))) l = (EndNotEnabled, refl)
-ending-for (suc (suc (suc (suc (suc (suc (suc (suc (suc zero))))))))) l = (EndBadSize, refl)
-ending-for (suc (suc (suc (suc (suc (suc (suc (suc (suc (suc k)))))))))) l = absurd (omega (arith, l))
+-- and so is each number up to 9
+said-up-to-9 : (k : ℕ) → k ≤ 9 → Said k
+said-up-to-9 zero l = inl refl
+said-up-to-9 (suc zero) l = inr (Truncated, refl)
+said-up-to-9 (suc (suc zero)) l = inr (Overlong, refl)
+said-up-to-9 (suc (suc (suc zero))) l = inr (UnknownKind, refl)
+said-up-to-9 (suc (suc (suc (suc zero)))) l = inr (NoSuchContainer, refl)
+said-up-to-9 (suc (suc (suc (suc (suc zero))))) l = inr (SelfFlow, refl)
+said-up-to-9 (suc (suc (suc (suc (suc (suc zero)))))) l = inr (StaleNumber, refl)
+said-up-to-9 (suc (suc (suc (suc (suc (suc (suc zero))))))) l = inr (TableFull, refl)
+said-up-to-9 (suc (suc (suc (suc (suc (suc (suc (suc zero)))))))) l = inr (NotEnabled, refl)
+said-up-to-9 (suc (suc (suc (suc (suc (suc (suc (suc (suc zero))))))))) l = inr (BadSize, refl)
+said-up-to-9 (suc (suc (suc (suc (suc (suc (suc (suc (suc (suc k)))))))))) l = absurd (omega (arith, l))
 
+-- the byte of a complete replay
+complete-byte : (bs : List ℕ) (lent : Storage) → IsBytes bs
+    → (replay_of bs lent).refusal ≡ 0 → (replay_of bs lent).byte ≡ 0
+complete-byte bs lent are =
+    by-begun (λ r. r.refusal ≡ 0 → r.byte ≡ 0) bs lent (λ k b e. refl)
+    (λ b z. ((replay-does bs lent are b).complete z).1)
+
+-- the run of a replay is given back, with the place where it stopped
 pub replay-left : (bs : List ℕ) (lent : Storage) → IsBytes bs
     → (r : Replayed) × ReplayGave bs lent r (replay_of bs lent).state.storage
 replay-left bs lent are =
     let x = replay_of bs lent in
-    let e = ending-for x.refusal (replay-refusal bs lent are) in (
-      record { ending = e.0; byte = x.byte; events = x.events; gain = x.gain; header = x.state.header },
-      λ i. record { refusal = e.1 i; byte = x.byte; events = x.events; gain = x.gain; state = x.state },
-    )
+    ⊎_elim
+    (λ z.
+    let b = complete-byte bs lent are z in (
+      record { events = x.events; gain = x.gain; header = x.state.header; stop = None },
+      λ i. record { refusal = sym z i; byte = sym b i; events = x.events; gain = x.gain; state = x.state },
+    ))
+    (λ w. (
+      record {
+        events = x.events;
+        gain = x.gain;
+        header = x.state.header;
+        stop = Some (record { refusal = w.0; byte = x.byte });
+      },
+      λ i. record { refusal = w.1 i; byte = x.byte; events = x.events; gain = x.gain; state = x.state },
+    ))
+    (said-up-to-9 x.refusal (replay-refusal bs lent are))
 
 -- writing is answered in one of two ways
-written-by : (out : List ℕ) (at : ℕ) (bs : List ℕ) → (reply : Encoded) × (writing_of reply ≡ (write_at out at bs).answer)
+written-by : (out : List ℕ) (at : ℕ) (bs : List ℕ)
+    → (reply : Result ℕ Refusal) × (writing_of reply ≡ (write_at out at bs).answer)
 written-by out at bs =
-    by_cases (dec_lt (length out) (at + length bs)) (λ l. (ShortOutput, ap (λ (w : Written). w.answer) (sym (write-short out at bs l))))
-    (λ l. (Next (at + length bs), ap (λ (w : Written). w.answer) (sym (write-fits out at bs (omega (arith, l))))))
+    by_cases (dec_lt (length out) (at + length bs))
+    (λ l. (Err ShortOutput, ap (λ (w : Written). w.answer) (sym (write-short out at bs l))))
+    (λ l. (Ok (at + length bs), ap (λ (w : Written). w.answer) (sym (write-fits out at bs (omega (arith, l))))))
 
 -- calls go on after calls
 pub called_on : (n : ℕ) (lent : Storage) (done : List Call) (s : State) → Called n lent done s → (cs : List Call) → (s : State) × Called n lent (done ++ cs) s
@@ -343,10 +362,10 @@ called_on n lent done s x (c ∷ cs) =
 
 -- the outcome of a start that is accepted is left by an answer that accepts
 pub start_left : (n : ℕ) (lent : Storage) → (start_of n lent).answer.refusal ≡ 0
-    → (r : Answered) × StartGave n lent r (start_of n lent).state.storage × ((answer_of r.reply).refusal ≡ 0)
+    → (r : Answered) × StartGave n lent r (start_of n lent).state.storage × ((answer_of r).refusal ≡ 0)
 start_left n lent a =
     let o = start_of n lent in (
-      given_back (Accepted o.answer.gain) o.state.header,
+      Ok (record { header = o.state.header; gain = o.answer.gain }),
       λ i. record { answer = record { refusal = sym a i; gain = o.answer.gain }; state = o.state },
       refl,
     )
@@ -356,64 +375,45 @@ pub called_of : (n : ℕ) (lent : Storage) → (start_of n lent).answer.refusal 
 called_of n lent a cs = let w = start_left n lent a in called_on n lent [] _ (begun w.0 _ w.1 w.2) cs
 
 -- a question is answered in one of four ways
-asked_is : {A : Type 0} (x : Asked A) (v : A) {k : ℕ} → x.refusal ≡ k → x.value ≡ v
-    → ◌≡◌ {A = Asked A} (record { refusal = k; value = v }) x
-asked_is x v p q = λ i. record { refusal = sym p i; value = sym q i }
+question-said : (s : State) (c : ℕ) {k : ℕ} → QuestionAnswers s c k → Said k
+question-said s c (short-question z) = inr (BadSize, refl)
+question-said s c (invalid-question z v) = inr (InvalidState, refl)
+question-said s c (no-container u l) = inr (NoSuchContainer, refl)
+question-said s c (answered u l) = inl refl
+
+-- so what is asked has an answer
+asked-given : {A : Type 0} (none value : A) (k : ℕ) → Said k
+    → (r : Result A Refusal) × (asked_by none r ≡ asked k none value)
+asked-given none value k (inl z) = (Ok value, sym (asked-told none value k z))
+asked-given none value k (inr w) = (Err w.0, sym (asked-refused none value k w.0 (sym w.1)))
 
 module _ (s : State) (c : ℕ) where
-  tags-number : (tags_of s c).refusal ≡ first_of (question_order s c) 0
+  decided-on : Said (first_of (question_order s c) 0)
+  decided-on = question-said s c ((question-answers s c (first_of (question_order s c) 0)).0 refl)
+
+  pub tags-given : (r : Result TagSet Refusal) × TagsGave s c r
   unfolding tags_of
-  tags-number = asked-number empty_set (set_at s.storage.tags c) (first_of (question_order s c) 0)
+  tags-given = asked-given empty_set (set_at s.storage.tags c) (first_of (question_order s c) 0) decided-on
 
-  pub tags-given : (r : Tags) × TagsGave s c r
-  tags-given = by_row ((question-answers s c (tags_of s c).refusal).0 (sym tags-number)) refl
-    where
-      given : {k : ℕ} (asking : Asking) → asking_of asking ≡ k → (tags_of s c).refusal ≡ k → (r : Tags) × TagsGave s c r
-      given asking a e =
-          let set = (tags_of s c).value in
-          (record { asking = asking; set = set }, λ i. record { refusal = (a ∙ sym e) i; value = set })
-
-      by_row : {k : ℕ} → QuestionAnswers s c k → (tags_of s c).refusal ≡ k → (r : Tags) × TagsGave s c r
-      by_row (short-question z) = given AskingBadSize refl
-      by_row (invalid-question z v) = given AskingInvalidState refl
-      by_row (no-container u l) = given AskingNoSuchContainer refl
-      by_row (answered u l) = given Fine refl
-
-  size_number : (size_asked s c).refusal ≡ first_of (question_order s c) 0
+  pub size-given : (r : Result ℕ Refusal) × SizeGave s c r
   unfolding size_asked
-  size_number = asked-number 0 (size_of (set_at s.storage.tags c)) (first_of (question_order s c) 0)
+  size-given = asked-given 0 (size_of (set_at s.storage.tags c)) (first_of (question_order s c) 0) decided-on
 
-  pub size-given : (r : Size) × SizeGave s c r
-  size-given = by_row ((question-answers s c (size_asked s c).refusal).0 (sym size_number)) refl
-    where
-      by_row : {k : ℕ} → QuestionAnswers s c k → (size_asked s c).refusal ≡ k → (r : Size) × SizeGave s c r
-      by_row (short-question z) e = (SizeBadSize, asked_is (size_asked s c) 0 e (size-untold s c 8 e))
-      by_row (invalid-question z v) e = (SizeInvalidState, asked_is (size_asked s c) 0 e (size-untold s c 11 e))
-      by_row (no-container u l) e = (SizeNoSuchContainer, asked_is (size_asked s c) 0 e (size-untold s c 3 e))
-      by_row (answered u l) e = (SizeIs (size_asked s c).value, asked_is (size_asked s c) (size_asked s c).value e refl)
-
-  legal-number : (legal_of s c).refusal ≡ first_of (question_order s c) 0
+  pub legal-given : (r : Result Bool Refusal) × LegalGave s c r
   unfolding legal_of
-  legal-number = asked-number false (is_legal s c) (first_of (question_order s c) 0)
-
-  pub legal-given : (r : Legal) × LegalGave s c r
-  legal-given = by_row ((question-answers s c (legal_of s c).refusal).0 (sym legal-number)) refl
-    where
-      by_row : {k : ℕ} → QuestionAnswers s c k → (legal_of s c).refusal ≡ k → (r : Legal) × LegalGave s c r
-      by_row (short-question z) e = (LegalBadSize, asked_is (legal_of s c) false e (legal-untold s c 8 e))
-      by_row (invalid-question z v) e = (LegalInvalidState, asked_is (legal_of s c) false e (legal-untold s c 11 e))
-      by_row (no-container u l) e = (LegalNoSuchContainer, asked_is (legal_of s c) false e (legal-untold s c 3 e))
-      by_row (answered u l) e = (LegalIs (legal_of s c).value, asked_is (legal_of s c) (legal_of s c).value e refl)
+  legal-given = asked-given false (is_legal s c) (first_of (question_order s c) 0) decided-on
 
 -- and so is the ranking
-pub rank-given : (s : State) (out : List ℕ) → (r : Ranked) × RankGave s out r
-rank-given s out = by_row ((rank-answers s out (rank_of s out).refusal).0 refl) refl
-  where
-    by_row : {k : ℕ} → RankAnswers s out k → (rank_of s out).refusal ≡ k → (r : Ranked) × RankGave s out r
-    by_row (rank-bad-size z) e = (RankedBadSize, sym e)
-    by_row (rank-invalid-state z v) e = (RankedInvalidState, sym e)
-    by_row (short-output u l) e = (RankedShortOutput, sym e)
-    by_row (ranked u l) e = (Done, sym e)
+rank-said : (s : State) (out : List ℕ) {k : ℕ} → RankAnswers s out k → Said k
+rank-said s out (rank-bad-size z) = inr (BadSize, refl)
+rank-said s out (rank-invalid-state z v) = inr (InvalidState, refl)
+rank-said s out (short-output u l) = inr (ShortOutput, refl)
+rank-said s out (ranked u l) = inl refl
+
+pub rank-given : (s : State) (out : List ℕ) → (r : Result (Unit {0}) Refusal) × RankGave s out r
+rank-given s out =
+    ⊎_elim (λ z. (Ok tt, sym z)) (λ w. (Err w.0, w.1))
+    (rank-said s out ((rank-answers s out (rank_of s out).refusal).0 refl))
 
 -- what a `tally` writes and leaves is given back by some answer
 pub tally-left : (bs tags policies counts out : List ℕ)

@@ -16,18 +16,18 @@ use denote.Triple.Clauses.{Ended, AtExit, Clauses}
 use Rattle.model.specs.declared.Flow.{Flow}
 use Rattle.model.specs.Model.{enable, disable}
 use Rattle.state.specs.declared.Header.{Header}
-use Rattle.state.specs.State.{Storage, State, storage_of, state_of}
+use Rattle.state.specs.State.{Storage, State, storage_of, state_of, state_in}
 use Rattle.outcome.specs.Outcome.{ask, add, outcome_of}
 use Rattle.claims.specs.Running.{StartGave, CallGave, TagsGave, SizeGave, LegalGave, RankGave, RankWrote, ReplayGave, with_new_table, TallyAnswered, TallyWrote, TallyLeft}
-use Rattle.tracker.specs.contracts.start as start-it
-use Rattle.tracker.specs.contracts.enable as enable-it
-use Rattle.tracker.specs.contracts.disable as disable-it
-use Rattle.tracker.specs.contracts.add_policy as add-it
-use Rattle.tracker.specs.contracts.tags_of as tags-it
-use Rattle.tracker.specs.contracts.size_of as size-it
-use Rattle.tracker.specs.contracts.is_legal as legal-it
-use Rattle.tracker.specs.contracts.rank as rank-it
-use Rattle.tracker.specs.contracts.replay as replay-it
+use Rattle.calls.specs.contracts.start as start-it
+use Rattle.calls.specs.contracts.enable as enable-it
+use Rattle.calls.specs.contracts.disable as disable-it
+use Rattle.calls.specs.contracts.add_policy as add-it
+use Rattle.question.specs.contracts.tags_of as tags-it
+use Rattle.question.specs.contracts.size_of as size-it
+use Rattle.question.specs.contracts.is_legal as legal-it
+use Rattle.ranking.specs.contracts.rank as rank-it
+use Rattle.replay.specs.contracts.replay as replay-it
 use Rattle.report.specs.contracts.tally as tally-it
 
 -- the lent lists, and the state of a header and these
@@ -75,24 +75,20 @@ module _ {M : Type 1} {𝓤 : Ura M} (𝓛 : Logic 𝓤) (mem : Memory → SProp
   add-policy-contract = refl
 
   pub tags-of-contract : tags-it.clauses 𝓛 mem run ≡ Ensures 𝓤 tags-it.ended
-      (λ κs (header, (tags, (policies, (counts, (flows, (c, _)))))) r e.
-      fact 𝓤 (TagsGave (given header tags.now policies.now counts.now flows.now) c r))
+      (λ κs (t, (c, _)) r e. fact 𝓤 (TagsGave (state_in t.now) c r))
   tags-of-contract = refl
 
   pub size-of-contract : size-it.clauses 𝓛 mem run ≡ Ensures 𝓤 size-it.ended
-      (λ κs (header, (tags, (policies, (counts, (flows, (c, _)))))) r e.
-      fact 𝓤 (SizeGave (given header tags.now policies.now counts.now flows.now) c r))
+      (λ κs (t, (c, _)) r e. fact 𝓤 (SizeGave (state_in t.now) c r))
   size-of-contract = refl
 
   pub is-legal-contract : legal-it.clauses 𝓛 mem run ≡ Ensures 𝓤 legal-it.ended
-      (λ κs (header, (tags, (policies, (counts, (flows, (c, _)))))) r e.
-      fact 𝓤 (LegalGave (given header tags.now policies.now counts.now flows.now) c r))
+      (λ κs (t, (c, _)) r e. fact 𝓤 (LegalGave (state_in t.now) c r))
   is-legal-contract = refl
 
   pub rank-contract : rank-it.clauses 𝓛 mem run ≡ Ensures 𝓤 rank-it.ended
-      (λ κs (header, (tags, (policies, (counts, (flows, (out, _)))))) r (_, (_, (_, (_, (_, (out', _)))))).
-      sep 𝓤 (fact 𝓤 (RankGave (given header tags.now policies.now counts.now flows.now) out.now r))
-      (fact 𝓤 (RankWrote (given header tags.now policies.now counts.now flows.now) out.now out'.now)))
+      (λ κs (t, (out, _)) r (_, (out', _)).
+      sep 𝓤 (fact 𝓤 (RankGave (state_in t.now) out.now r)) (fact 𝓤 (RankWrote (state_in t.now) out.now out'.now)))
   rank-contract = refl
 
   pub replay-contract : replay-it.clauses 𝓛 mem run ≡ Ensures 𝓤 replay-it.ended
