@@ -1,155 +1,119 @@
-// The calls that change a tracker. Each gives back the tracker of now on.
-use crate::Now;
-use calls::{Answered, Reply};
+// The calls that change a tracker.
+ghost use Rattle.std.specs.Prelude.{◌≤◌};
+
+use crate::asks::header_text;
+use crate::book::Book;
+use calls::Accepted;
 use model::Flow;
-use sampleline::Numbers;
-use sampleline::print::{named, refused};
+use refusal::Refusal;
+use sampleline::print::refused;
+use sampleline::{Line, set_of};
 use state::Header;
 use std::io;
 use std::io::Write;
 
-// `start N`, with the header that comes back.
-pub fn start<W: Write>(
-    out: &mut W,
-    a: Numbers,
-    now: Now,
-    tags: &mut [u64],
-    policies: &mut [u64],
-    counts: &mut [u8],
-) -> io::Result<Now> {
-    let flows = now.flows;
-    let length = now.length;
-    let done = calls::start(a.small(0), tags, policies, counts, length, flows);
-    let answered = done.answered;
-    let table = done.flows;
-    let after = told(out, answered, table, length)?;
-    header_text(out, b", n ", after.header)?;
-    Ok(after)
-}
-
-// `enable K F T`.
-pub fn enable<W: Write>(
-    out: &mut W,
-    a: Numbers,
-    now: Now,
-    tags: &mut [u64],
-    policies: &[u64],
-    counts: &[u8],
-) -> io::Result<Now> {
-    let flows = now.flows;
-    let length = now.length;
-    let flow = Flow {
-        number: a.small(0),
-        from: a.small(1),
-        to: a.small(2),
-    };
-    let done = calls::enable(now.header, tags, policies, counts, length, flows, flow);
-    let answered = done.answered;
-    let table = done.flows;
-    told(out, answered, table, length)
-}
-
-// `disable K`.
-pub fn disable<W: Write>(
-    out: &mut W,
-    a: Numbers,
-    now: Now,
-    tags: &[u64],
-    policies: &[u64],
-    counts: &[u8],
-) -> io::Result<Now> {
-    let flows = now.flows;
-    let length = now.length;
-    let number = a.small(0);
-    let done = calls::disable(now.header, tags, policies, counts, length, flows, number);
-    let answered = done.answered;
-    let table = done.flows;
-    told(out, answered, table, length)
-}
-
-// `add C T..`: the policy set of these tags.
-pub fn add<W: Write>(
-    out: &mut W,
-    a: Numbers,
-    now: Now,
-    tags: &[u64],
-    policies: &mut [u64],
-    counts: &mut [u8],
-) -> io::Result<Now> {
-    let flows = now.flows;
-    let length = now.length;
-    let policy = a.tags(1, a.count);
-    let answered = calls::add_policy(
-        now.header,
+// `start N`, with the header that comes back: that of no tracker where it is refused.
+pub fn start<W: Write>(out: &mut W, line: &Line, book: Book) -> io::Result<()> {
+    let Book {
+        header,
         tags,
         policies,
         counts,
-        length,
         flows,
-        a.small(0),
-        policy,
-    );
-    told(out, answered, flows, length)
+    } = book;
+    *header = Header::NONE;
+    let reply = calls::start(line.small(0), tags, policies, counts, flows);
+    told(out, header, reply)?;
+    out.write_all(b", ")?;
+    header_text(out, *header)
+}
+
+// `enable K F T`.
+pub fn enable<W: Write>(out: &mut W, line: &Line, book: Book) -> io::Result<()> {
+    let Book {
+        header,
+        tags,
+        policies,
+        counts,
+        flows,
+    } = book;
+    let flow = flow_of(line, 0);
+    let reply = calls::enable(*header, tags, policies, counts, flows, flow);
+    told(out, header, reply)
+}
+
+// The flow whose number and ends begin with the i-th number.
+pub fn flow_of(line: &Line, i: usize) -> Flow
+    requires { i ≤ 8 }
+{
+    Flow {
+        number: line.small(i),
+        from: line.small(i + 1),
+        to: line.small(i + 2),
+    }
+}
+
+// `disable K`.
+pub fn disable<W: Write>(out: &mut W, line: &Line, book: Book) -> io::Result<()> {
+    let Book {
+        header,
+        tags,
+        policies,
+        counts,
+        flows,
+    } = book;
+    let number = line.small(0);
+    let reply = calls::disable(*header, tags, policies, counts, flows, number);
+    told(out, header, reply)
+}
+
+// `add C T..`: the policy set of these tags.
+pub fn add<W: Write>(out: &mut W, line: &Line, book: Book) -> io::Result<()> {
+    let Book {
+        header,
+        tags,
+        policies,
+        counts,
+        flows,
+    } = book;
+    let c = line.small(0);
+    let policy = set_of(line.from(1));
+    let reply = calls::add_policy(*header, tags, policies, counts, flows, c, policy);
+    told(out, header, reply)
 }
 
 // `fill N`: enables N flows from 0 to 1, each with the next number. Nothing is printed.
-pub fn fill(a: Numbers, mut now: Now, tags: &mut [u64], policies: &[u64], counts: &[u8]) -> Now {
-    let n = a.small(0);
-    let length = now.length;
-    let mut k: u32 = 0;
-    while k < n {
-        let header = now.header;
-        let flows = now.flows;
-        let number = header.greatest % 65536 + 1;
+pub fn fill(line: &Line, book: Book) {
+    let Book {
+        header,
+        tags,
+        policies,
+        counts,
+        flows,
+    } = book;
+    for _ in 0..line.small(0) {
         let flow = Flow {
-            number: number,
+            number: header.greatest % 65536 + 1,
             from: 0,
             to: 1,
         };
-        let done = calls::enable(header, tags, policies, counts, length, flows, flow);
-        let answered = done.answered;
-        let after = answered.header;
-        let table = done.flows;
-        now = Now {
-            header: after,
-            flows: table,
-            length: length,
-        };
-        k += 1;
+        if let Ok(accepted) = calls::enable(*header, tags, policies, counts, flows, flow) {
+            *header = accepted.header;
+        }
     }
-    now
 }
 
-// Prints what a call answers (that it is accepted, with its gain, or the refusal), and gives back the tracker of now on.
+// Prints what a call answers (that it is accepted, with its gain, or the refusal), and keeps the header from now on.
 pub fn told<W: Write>(
     out: &mut W,
-    answered: Answered,
-    flows: [Flow; 512],
-    length: usize,
-) -> io::Result<Now> {
-    let reply = answered.reply;
+    header: &mut Header,
+    reply: Result<Accepted, Refusal>,
+) -> io::Result<()> {
     match reply {
-        Reply::Accepted(gain) => named(out, b": accepted, gain ", gain as u64)?,
-        Reply::NoSuchContainer => refused(out, 4)?,
-        Reply::SelfFlow => refused(out, 5)?,
-        Reply::StaleNumber => refused(out, 6)?,
-        Reply::TableFull => refused(out, 7)?,
-        Reply::NotEnabled => refused(out, 8)?,
-        Reply::BadSize => refused(out, 9)?,
-        Reply::PolicyFull => refused(out, 11)?,
-        Reply::InvalidState => refused(out, 12)?,
+        Ok(accepted) => {
+            *header = accepted.header;
+            write!(out, ": accepted, gain {}", accepted.gain)
+        }
+        Err(refusal) => refused(out, refusal),
     }
-    let header = answered.header;
-    Ok(Now {
-        header: header,
-        flows: flows,
-        length: length,
-    })
-}
-
-// A header's numbers.
-pub fn header_text<W: Write>(out: &mut W, before: &[u8], header: Header) -> io::Result<()> {
-    named(out, before, header.containers as u64)?;
-    named(out, b", flows ", header.count as u64)?;
-    named(out, b", greatest ", header.greatest as u64)
 }

@@ -1,126 +1,82 @@
 // Lines of a script, and what is printed of them. A line is a word, and behind it numbers with single spaces between them.
 #![tactic(auto)]
 
-pub mod command;
 pub mod print;
 
-ghost use Rattle.std.specs.Prelude.{◌≤◌, length};
-
+use std::alloc::{AllocError, Global};
 use tagset::TagSet;
 
-// The numbers of a line: at most 64, and how many there are.
-#[derive(Clone, Copy)]
-pub struct Numbers {
-    pub values: [u64; 64],
-    pub count: usize,
+// A line: its word, and the numbers behind it, at most 64.
+#[derive(Drop)]
+pub struct Line<'a> {
+    pub word: &'a [u8],
+    numbers: Vec<u64>,
 }
 
-// The first position from `at` on that has this byte, or the end.
-pub fn find(s: &[u8], at: usize, b: u8) -> usize
-    ensures { (at ≤ result) × (at ≤ length s.now → result ≤ length s.now) }
-{
-    let mut i = at;
-    while i < s.len() {
-        if s[i] == b {
-            return i;
+impl Line<'_> {
+    // Takes a line apart.
+    pub fn of(alloc: Global, text: &[u8]) -> Result<Line<'_>, AllocError> {
+        let mut words = text.split(|byte| *byte == b' ');
+        let word = words.next().unwrap_or(&[]);
+        let mut numbers = Vec::new(alloc);
+        for digits in words.take(64) {
+            numbers.push(number_of(digits))?;
         }
-        i += 1;
+        Ok(Line { word, numbers })
     }
-    i
-}
 
-// The byte at a position, 0 past the end.
-pub fn byte_at(s: &[u8], i: usize) -> u8 {
-    if i < s.len() {
-        return s[i];
+    // How many numbers there are.
+    pub fn count(&self) -> usize {
+        self.numbers.len()
     }
-    0
-}
 
-// The numbers behind the word of a line.
-pub fn numbers_of(s: &[u8]) -> Numbers
-    ensures { result.count ≤ 64 }
-{
-    let mut values = [0u64; 64];
-    let mut count: usize = 0;
-    let mut at = find(s, 0, 32);
-    while at < s.len() {
-        if count == 64 {
-            break;
-        }
-        values[count] = number_at(s, at + 1);
-        count += 1;
-        at = find(s, at + 1, 32);
-    }
-    Numbers {
-        values: values,
-        count: count,
-    }
-}
-
-// The number whose digits begin at a position, modulo 2 ^ 64.
-fn number_at(s: &[u8], at: usize) -> u64 {
-    let mut v: u64 = 0;
-    let mut i = at;
-    while i < s.len() {
-        let b = s[i];
-        if b < 48 {
-            break;
-        }
-        v = std::num::wrapping_add_u64(times_ten(v), digit(b));
-        i += 1;
-    }
-    v
-}
-
-// Ten times a number, modulo 2 ^ 64.
-fn times_ten(v: u64) -> u64 {
-    let two = std::num::wrapping_add_u64(v, v);
-    let four = std::num::wrapping_add_u64(two, two);
-    let eight = std::num::wrapping_add_u64(four, four);
-    std::num::wrapping_add_u64(eight, two)
-}
-
-// What a digit stands for.
-fn digit(b: u8) -> u64 {
-    (b as u64 + 2) % 10
-}
-
-impl Numbers {
-    // The i-th number, 0 past the last that a line may have.
-    pub fn get(self, i: usize) -> u64 {
-        let values = self.values;
-        if i < 64 {
-            return values[i];
-        }
-        0
+    // The i-th number, 0 past the last.
+    pub fn get(&self, i: usize) -> u64 {
+        self.numbers.get(i).copied().unwrap_or(0)
     }
 
     // The same as a number of 32 bits.
-    pub fn small(self, i: usize) -> u32 {
+    pub fn small(&self, i: usize) -> u32 {
         (self.get(i) % 4294967296) as u32
     }
 
-    // The set of the tags from the i-th number on and before the j-th.
-    pub fn tags(self, i: usize, j: usize) -> TagSet {
-        let mut set = TagSet::empty();
-        let mut k = i;
-        while k < j {
-            set = set.union(TagSet::single(self.small(k)));
-            k += 1;
-        }
-        set
+    // The numbers from the i-th on.
+    pub fn from(&self, i: usize) -> &[u64] {
+        self.numbers.get(i..).unwrap_or(&[])
     }
 
-    // All of them as bytes.
-    pub fn bytes(self) -> [u8; 64] {
-        let values = self.values;
-        let mut out = [0u8; 64];
-        let mut i: usize = 0;
-        while i < 64 {
-            out[i] = (values[i] % 256) as u8;
-            i += 1;
+    // The numbers from the i-th on as bytes, or nothing where there are not so many.
+    pub fn bytes(&self, alloc: Global, i: usize) -> Result<Option<Vec<u8>>, AllocError> {
+        let Some(numbers) = self.numbers.get(i..) else {
+            return Ok(None);
+        };
+        let mut bytes = Vec::new(alloc);
+        for number in numbers {
+            bytes.push((*number % 256) as u8)?;
         }
-        out
+        Ok(Some(bytes))
     }
+}
+
+// The number of these digits, modulo 2 ^ 64.
+fn number_of(digits: &[u8]) -> u64 {
+    let mut value: u64 = 0;
+    for digit in digits {
+        if *digit < b'0' {
+            break;
+        }
+        value = value
+            .wrapping_mul(10)
+            .wrapping_add((u64::from(*digit) + 2) % 10);
+    }
+    value
+}
+
+// The set of these tags.
+pub fn set_of(tags: &[u64]) -> TagSet {
+    let mut set = TagSet::empty();
+    for tag in tags {
+        set = set.union(TagSet::single((*tag % 4294967296) as u32));
+    }
+    set
 }

@@ -1,100 +1,95 @@
 // Records and heads, read and written.
-use eventlog::{Event, Head, Record};
-use sampleline::Numbers;
-use sampleline::print::{named, text, written};
+ghost use Rattle.std.specs.Prelude.{◌≤◌};
+
+use eventlog::Event;
+use refusal::Refusal;
+use sampleline::Line;
+use sampleline::print::{refused, written};
 use std::io;
 use std::io::Write;
 
 // `log B..`: n and the events of a log, up to its end or the refusal.
-pub fn log<W: Write>(out: &mut W, s: &[u8]) -> io::Result<()> {
-    match eventlog::read_head(s) {
-        Head::Containers(n, first) => {
-            named(out, b": n ", n as u64)?;
-            records(out, s, first)
+pub fn log<W: Write>(out: &mut W, bytes: &[u8]) -> io::Result<()> {
+    match eventlog::read_head(bytes) {
+        Ok((n, first)) => {
+            write!(out, ": n {n}")?;
+            records(out, bytes, first)
         }
-        Head::Truncated => text(out, b": refused 1 at 0"),
-        Head::Overlong => text(out, b": refused 2 at 0"),
+        Err(refusal) => {
+            refused(out, refusal)?;
+            out.write_all(b" at 0")
+        }
     }
 }
 
 // The events of the records from a position on, at most 64.
-fn records<W: Write>(out: &mut W, s: &[u8], first: usize) -> io::Result<()> {
+fn records<W: Write>(out: &mut W, bytes: &[u8], first: usize) -> io::Result<()> {
     let mut at = first;
-    let mut k: u32 = 0;
-    while k < 64 {
-        if s.len() <= at {
-            return text(out, b", end");
+    for _ in 0..64 {
+        if bytes.len() <= at {
+            return out.write_all(b", end");
         }
-        let r = eventlog::read_record(s, at);
-        text(out, b", ")?;
-        record_text(out, r)?;
-        let Record::Holds(_, next) = r else {
-            return named(out, b" at ", at as u64);
-        };
-        at = next;
-        k += 1;
+        let record = eventlog::read_record(bytes, at);
+        out.write_all(b", ")?;
+        record_text(out, record)?;
+        match record {
+            Ok((_, next)) => at = next,
+            Err(_) => return write!(out, " at {at}"),
+        }
     }
     Ok(())
 }
 
 // What reading a record gave.
-fn record_text<W: Write>(out: &mut W, r: Record) -> io::Result<()> {
-    match r {
-        Record::Holds(e, _) => event_text(out, e),
-        Record::Truncated => text(out, b"refused 1"),
-        Record::Overlong => text(out, b"refused 2"),
-        Record::UnknownKind => text(out, b"refused 3"),
-    }
-}
-
-// An event and its numbers.
-fn event_text<W: Write>(out: &mut W, e: Event) -> io::Result<()> {
-    match e {
-        Event::Enable { number, from, to } => {
-            named(out, b"enable ", number as u64)?;
-            named(out, b" ", from as u64)?;
-            named(out, b" ", to as u64)
-        }
-        Event::Disable { number } => named(out, b"disable ", number as u64),
+fn record_text<W: Write>(out: &mut W, record: Result<(Event, usize), Refusal>) -> io::Result<()> {
+    match record {
+        Ok((Event::Enable { number, from, to }, _)) => write!(out, "enable {number} {from} {to}"),
+        Ok((Event::Disable { number }, _)) => write!(out, "disable {number}"),
+        Err(refusal) => write!(out, "refused {refusal}"),
     }
 }
 
 // `item P B..`: the record at position P of the bytes.
-pub fn item<W: Write>(out: &mut W, a: Numbers, s: &[u8]) -> io::Result<()> {
-    let r = eventlog::read_record(s, a.get(0) as usize);
-    text(out, b": ")?;
-    record_text(out, r)?;
-    if let Record::Holds(_, next) = r {
-        named(out, b", next ", next as u64)?;
+pub fn item<W: Write>(out: &mut W, line: &Line, bytes: &[u8]) -> io::Result<()> {
+    let record = eventlog::read_record(bytes, line.get(0) as usize);
+    out.write_all(b": ")?;
+    record_text(out, record)?;
+    if let Ok((_, next)) = record {
+        write!(out, ", next {next}")?;
     }
     Ok(())
 }
 
-// The event of these numbers: a disable, where there is no more than its number.
-fn event_of(alone: bool, number: u32, from: u32, to: u32) -> Event {
-    if alone {
+// The event of the numbers from the i-th on: a disable, where there is no more than its number.
+fn event_of(line: &Line, i: usize) -> Event
+    requires { i ≤ 8 }
+{
+    let number = line.small(i);
+    if line.from(i).len() == 1 {
         return Event::Disable { number };
     }
-    Event::Enable { number, from, to }
+    Event::Enable {
+        number,
+        from: line.small(i + 1),
+        to: line.small(i + 2),
+    }
 }
 
 // `write P K` or `write P K F T`: the record of this event, written at position P of eight bytes of 7.
-pub fn write<W: Write>(out: &mut W, a: Numbers) -> io::Result<()> {
+pub fn write<W: Write>(out: &mut W, line: &Line) -> io::Result<()> {
     let mut left = [7u8; 8];
-    let event = event_of(a.count == 2, a.small(1), a.small(2), a.small(3));
-    let reply = eventlog::write_record(&mut left, a.get(0) as usize, event);
+    let reply = eventlog::write_record(&mut left, line.get(0) as usize, event_of(line, 1));
     written(out, reply, &left)
 }
 
 // `begin N`: N at the start of a log, written into four bytes of 7.
-pub fn begin<W: Write>(out: &mut W, a: Numbers) -> io::Result<()> {
+pub fn begin<W: Write>(out: &mut W, line: &Line) -> io::Result<()> {
     let mut left = [7u8; 4];
-    let reply = eventlog::write_head(&mut left, a.small(0));
+    let reply = eventlog::write_head(&mut left, line.small(0));
     written(out, reply, &left)
 }
 
 // `bytes K` or `bytes K F T`: how many bytes the record of this event takes.
-pub fn bytes<W: Write>(out: &mut W, a: Numbers) -> io::Result<()> {
-    let event = event_of(a.count == 1, a.small(0), a.small(1), a.small(2));
-    named(out, b": ", eventlog::record_len(event) as u64)
+pub fn bytes<W: Write>(out: &mut W, line: &Line) -> io::Result<()> {
+    write!(out, ": {}", eventlog::record_len(event_of(line, 0)))
 }

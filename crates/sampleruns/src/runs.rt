@@ -1,146 +1,115 @@
-// Replays and texts in the script's tracker. Each gives back what the run left.
-use leb128::Encoded;
-use replay::{Containers, Ending};
+// Replays and texts in the script's tracker.
+use model::Flow;
 use report::Tallied;
-use samplecalls::Now;
-use samplecalls::changes::header_text;
-use sampleline::Numbers;
-use sampleline::print::{named, refused, text, written};
+use samplecalls::asks::header_text;
+use samplecalls::book::Book;
+use sampleline::Line;
+use sampleline::print::{refused, written};
+use state::Header;
 use std::io;
 use std::io::Write;
 
 // `judge T P C F B..`: n of a log, in lists of these lengths.
-pub fn judge<W: Write>(out: &mut W, a: Numbers, s: &[u8]) -> io::Result<()> {
-    let tags = a.get(0) as usize;
-    let policies = a.get(1) as usize;
-    let counts = a.get(2) as usize;
-    let flows = a.get(3) as usize;
-    match replay::read_containers(s, tags, policies, counts, flows) {
-        Containers::Read(n, next) => {
-            named(out, b": ", n as u64)?;
-            named(out, b", next ", next as u64)
-        }
-        Containers::Truncated => refused(out, 1),
-        Containers::Overlong => refused(out, 2),
-        Containers::BadSize => refused(out, 9),
+pub fn judge<W: Write>(out: &mut W, line: &Line, bytes: &[u8]) -> io::Result<()> {
+    let tags = line.get(0) as usize;
+    let policies = line.get(1) as usize;
+    let counts = line.get(2) as usize;
+    let flows = line.get(3) as usize;
+    match replay::read_containers(bytes, tags, policies, counts, flows) {
+        Ok((n, next)) => write!(out, ": {n}, next {next}"),
+        Err(refusal) => refused(out, refusal),
     }
 }
 
 // `replay B..`: how the run ended, the events done, their gain and the header.
-pub fn replay_log<W: Write>(
+pub fn replay_log<W: Write>(out: &mut W, bytes: &[u8], book: Book) -> io::Result<()> {
+    let Book {
+        header,
+        tags,
+        policies,
+        counts,
+        flows,
+    } = book;
+    replay_text(out, bytes, header, tags, policies, counts, flows)
+}
+
+// The same, on the lists one by one, so that another run can follow in them.
+pub fn replay_text<W: Write>(
     out: &mut W,
-    s: &[u8],
-    now: Now,
+    bytes: &[u8],
+    header: &mut Header,
     tags: &mut [u64],
     policies: &mut [u64],
     counts: &mut [u8],
-) -> io::Result<Now> {
-    let before = now.flows;
-    let length = now.length;
-    let run = replay::replay(s, tags, policies, counts, length, before);
-    let done = run.replayed;
-    let ending = done.ending;
-    ending_text(out, ending, done.byte)?;
-    named(out, b", events ", done.events)?;
-    named(out, b", gain ", done.gain)?;
-    let header = done.header;
-    header_text(out, b", n ", header)?;
-    let flows = run.flows;
-    Ok(Now {
-        header: header,
-        flows: flows,
-        length: length,
-    })
-}
-
-// Why a replay ended, and at which byte.
-fn ending_text<W: Write>(out: &mut W, ending: Ending, byte: usize) -> io::Result<()> {
-    let number = replay::ending_number(ending) as u64;
-    if number == 0 {
-        text(out, b": complete")
-    } else {
-        refused(out, number)?;
-        named(out, b" at ", byte as u64)
+    flows: &mut [Flow],
+) -> io::Result<()> {
+    let run = replay::replay(bytes, tags, policies, counts, flows);
+    *header = run.header;
+    match run.stop {
+        None => out.write_all(b": complete")?,
+        Some(stop) => write!(out, ": refused {} at {}", stop.refusal, stop.byte)?,
     }
+    write!(out, ", events {}, gain {}, ", run.events, run.gain)?;
+    header_text(out, run.header)
 }
 
-// `tally B..`: the whole text, on lines of its own. The run has a flow table of its own; `length` is only carried on.
-pub fn tally<W: Write>(
+// `tally B..`: the whole text, on lines of its own without its last newline, or only how long it is where that is above 512.
+pub fn tally<W: Write>(out: &mut W, bytes: &[u8], book: Book) -> io::Result<()> {
+    let Book {
+        header,
+        tags,
+        policies,
+        counts,
+        flows,
+    } = book;
+    tally_text(out, bytes, header, tags, policies, counts, flows)
+}
+
+// The same, on the lists one by one.
+pub fn tally_text<W: Write>(
     out: &mut W,
-    s: &[u8],
-    length: usize,
+    bytes: &[u8],
+    header: &mut Header,
     tags: &mut [u64],
     policies: &mut [u64],
     counts: &mut [u8],
-) -> io::Result<Now> {
-    let mut bytes = [0u8; 264256];
-    let done = report::tally(s, tags, policies, counts, &mut bytes);
-    text(out, b":")?;
-    let reply = done.reply;
-    if let Encoded::Next(end) = reply {
-        lines(out, &bytes, end)?;
-    }
-    Ok(left_by(done, length))
-}
-
-// The text of this length: on lines of its own, without its last newline, or only how long it is where that is above 512.
-fn lines<W: Write>(out: &mut W, s: &[u8], length: usize) -> io::Result<()> {
-    if 512 < length {
-        named(out, b" ", length as u64)?;
-        text(out, b" bytes of text")?;
-    } else if 0 < length {
-        text(out, b"\n")?;
-        front(out, s, length - 1)?;
-    }
-    Ok(())
-}
-
-// The first n bytes.
-fn front<W: Write>(out: &mut W, s: &[u8], n: usize) -> io::Result<()> {
-    if n <= s.len() {
-        text(out, &s[..n])?;
-    }
-    Ok(())
-}
-
-// The tracker that a run of `tally` left; as much counts as lent as before.
-fn left_by(done: Tallied, length: usize) -> Now {
-    let header = done.header;
-    let flows = done.flows;
-    Now {
-        header: header,
-        flows: flows,
-        length: length,
+    flows: &mut [Flow],
+) -> io::Result<()> {
+    let mut text = [0u8; 264256];
+    let done = report::tally(bytes, tags, policies, counts, &mut text);
+    keep(&done, header, flows);
+    out.write_all(b":")?;
+    match done.reply {
+        Ok(length) if 512 < length => write!(out, " {length} bytes of text"),
+        Ok(length) => {
+            let whole = text.get(..length).unwrap_or(&[]);
+            out.write_all(b"\n")?;
+            out.write_all(whole.strip_suffix(b"\n").unwrap_or(whole))
+        }
+        Err(_) => Ok(()),
     }
 }
 
-// `short L B..`: the text into L bytes of 7, at most 64.
-pub fn short<W: Write>(
-    out: &mut W,
-    a: Numbers,
-    s: &[u8],
-    length: usize,
-    tags: &mut [u64],
-    policies: &mut [u64],
-    counts: &mut [u8],
-) -> io::Result<Now> {
-    let n = (a.get(0) % 65) as usize;
-    let mut bytes = [7u8; 64];
-    tally_into(out, s, length, tags, policies, counts, &mut bytes[..n])
+// `short L B..`: the text into L bytes of 7, at most 64, and what they have then.
+pub fn short<W: Write>(out: &mut W, line: &Line, bytes: &[u8], book: Book) -> io::Result<()> {
+    let Book {
+        header,
+        tags,
+        policies,
+        counts,
+        flows,
+    } = book;
+    let n = (line.get(0) % 65) as usize;
+    let mut text = [7u8; 64];
+    let done = report::tally(bytes, tags, policies, counts, &mut text[..n]);
+    keep(&done, header, flows);
+    written(out, done.reply, &text[..n])
 }
 
-// The text into these bytes, and what they have then.
-fn tally_into<W: Write>(
-    out: &mut W,
-    s: &[u8],
-    length: usize,
-    tags: &mut [u64],
-    policies: &mut [u64],
-    counts: &mut [u8],
-    bytes: &mut [u8],
-) -> io::Result<Now> {
-    let done = report::tally(s, tags, policies, counts, bytes);
-    let reply = done.reply;
-    written(out, reply, bytes)?;
-    Ok(left_by(done, length))
+// Keeps the header and the flow table that a run of `tally` left: it has a table of its own.
+fn keep(done: &Tallied, header: &mut Header, flows: &mut [Flow]) {
+    *header = done.header;
+    for (place, flow) in flows.iter_mut().zip(done.flows.iter()) {
+        *place = *flow;
+    }
 }

@@ -1,0 +1,58 @@
+// What the script's lines work on: a header, and the part of each list that is lent.
+use model::Flow;
+use state::{Header, Tracker};
+
+// How much of each list is lent to the calls: words of tags, words of policy sets, counts and records of the flow table.
+#[derive(Clone, Copy)]
+pub struct Room {
+    pub tags: usize,
+    pub policies: usize,
+    pub counts: usize,
+    pub flows: usize,
+}
+
+impl Room {
+    // All that there is; of the flow table 512 records.
+    pub const ALL: Room = Room {
+        tags: 1028,
+        policies: 4112,
+        counts: 257,
+        flows: 512,
+    };
+
+    // So much of each list, if there is so much.
+    pub fn of(tags: usize, policies: usize, counts: usize, flows: usize) -> Option<Room> {
+        if 1028 < tags || 4112 < policies || 257 < counts || 600 < flows {
+            return None;
+        }
+        Some(Room {
+            tags,
+            policies,
+            counts,
+            flows,
+        })
+    }
+}
+
+// The script's tracker: its header, and what is lent of the lists.
+#[derive(Drop)]
+pub struct Book<'a> {
+    pub header: &'a mut Header,
+    pub tags: &'a mut [u64],
+    pub policies: &'a mut [u64],
+    pub counts: &'a mut [u8],
+    pub flows: &'a mut [Flow],
+}
+
+impl Book<'_> {
+    // What a question is asked of.
+    pub fn seen(&self) -> Tracker<'_> {
+        Tracker {
+            header: *self.header,
+            tags: self.tags,
+            policies: self.policies,
+            counts: self.counts,
+            flows: self.flows,
+        }
+    }
+}
