@@ -371,7 +371,8 @@ fn number_of<T>(answer: &Result<T, Refusal>) -> u32
     }
 }
 
-// The numbers of what a call answers that began with this header: a refused one leaves it.
+// The numbers of what a call answers that began with this header: a refused one leaves it. (No `From`, which takes one
+// value.)
 fn call_answer(answer: Result<Accepted, Refusal>, header: Header) -> CallAnswer
     ensures { result ≡ call_told answer header }
 {

@@ -1,7 +1,7 @@
 // The text of `tally`: an input run in lent lists and a flow table of its own, and its report in a lent output.
 // What the text is stands in tallytext/specs/Text.antt.
 // The methods of `Sheet` take positions up to some millions, far past the end of every text (264,256 bytes): so no sum of
-// a position wraps. No `write!` (tried): its contract says nothing of an `Err`, and so not that a text does not fit.
+// a position wraps. They are no `write!`: its contract says nothing of an `Err`, and so not when a text does not fit.
 #![tactic(auto)]
 
 ghost use Rattle.std.specs.Prelude.{◌≡◌, [], ◌∷◌, ◌++◌, ◌*◌, ◌≤◌, ◌<◌, length, replicate};
