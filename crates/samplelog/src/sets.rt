@@ -24,7 +24,7 @@ fn sizes<W: Write>(out: &mut W, first: TagSet, second: TagSet) -> io::Result<()>
     text(out, b", part ")?;
     yes(out, first.is_subset(second))?;
     text(out, b", equal ")?;
-    yes(out, first.equals(second))
+    yes(out, first == second)
 }
 
 // The place of 999, which is no tag.
