@@ -1,9 +1,9 @@
 -- A set of tags word by word: what its words say of its tags, and what the code makes of the words.
 -- Assumes nothing.
 use Rattle.std.specs.Prelude.{◌≡◌, refl, Bool, true, false, ◌&&◌, List, [], ◌∷◌, ℕ, zero, suc, ◌+◌, ◌*◌, ◌-◌, ◌/◌, ◌%◌, ◌^◌, ◌≤◌, ◌<◌, eqb, get_or, set, length}
-use Rattle.std.proofs.Common.{sym, ap, ap₂, ◌∙◌, subst, mod-lt, one-mul, mod-eq_of_lt, div-add-mod', sub-eq-zero_of_le, le_of_lt, arith, lit<, Fits, ext_get_or, eqb-true, eq-eqb}
+use Rattle.std.proofs.Common.{sym, ap, ap₂, ◌∙◌, subst, mod-lt, one-mul, mod-eq_of_lt, div-add-mod', sub-eq-zero_of_le, le_of_lt, arith, lit<, pow_pos, Fits, ext_get_or, eqb-true, eq-eqb}
 use Rattle.std.specs.Bool.{beq}
-use Rattle.std.proofs.Math.Nat.{min-eq_left, min-eq_right}
+use Rattle.std.proofs.Math.Nat.{sub-zero, min-eq_left, min-eq_right}
 use Rattle.std.proofs.Math.Arith.{digits_div, digits_mod}
 use Rattle.std.specs.Int.Bits.{bit_and, bit_or, and_lt, or_add_and}
 use Rattle.std.proofs.lemmas.Nat.{and_le_l, and_le_r, and_comm, and-not, and_mask}
@@ -13,8 +13,8 @@ use Rattle.tagset.specs.declared.TagSet.{TagSet}
 use Rattle.truth.specs.Truth.{iff, and_both, both-and}
 use Rattle.tagset.proofs.Below.{all-at, all-make}
 use Rattle.tagset.proofs.Bit.{bit-and, bits-ext}
-use Rattle.tagset.specs.Set.{all_below, bit_at, word_at, has_w, has, single_of, low_ones, wordwise, implies, subset_of, same_of, IsWords}
-use Rattle.tagset.specs.Word.{zeros, Tests, within}
+use Rattle.tagset.specs.Set.{all_below, bit_at, word_at, has_w, has, single_of, low_ones, below_of, wordwise, implies, subset_of, same_of, IsWords}
+use Rattle.tagset.specs.Word.{zeros, Tests, within, left}
 
 -- what holds of each of the four words, and past them, holds of every word
 pub each_word : (P : ℕ → Type 0) → P 0 → P 1 → P 2 → P 3 → ((i : ℕ) → P (suc (suc (suc (suc i))))) → (i : ℕ) → P i
@@ -150,13 +150,18 @@ subset-words : (a b : TagSet) → IsWords a → IsWords b
 unfolding subset_of
 subset-words = tests-words implies within tests-within
 
--- nothing is left of a word without the other where it has no bit that the other lacks; nothing is in two words where nothing is in either
-left-none : (x y : ℕ) → x < 2 ^ 64 → y < 2 ^ 64 → eqb (bit_and x (2 ^ 64 - 1 - y)) 0 ≡ within x y
-left-none x y hx hy =
-    let l : bit_and x (2 ^ 64 - 1 - y) + bit_and x y ≡ x = rw (and_comm x (2 ^ 64 - 1 - y), and_comm x y) (and-not 64 y x hy hx) in
-    iff (eqb (bit_and x (2 ^ 64 - 1 - y)) 0) (within x y)
-    (λ e. eq-eqb (bit_and x y) x (omega (arith, l, eqb-true (bit_and x (2 ^ 64 - 1 - y)) 0 e)))
-    (λ e. eq-eqb (bit_and x (2 ^ 64 - 1 - y)) 0 (omega (arith, l, eqb-true (bit_and x y) x e)))
+-- what a word has of the bits that another lacks is what is left of it without what both have
+pub without-left : (x y : ℕ) → x < 2 ^ 64 → y < 2 ^ 64 → bit_and x (2 ^ 64 - 1 - y) ≡ x - bit_and x y
+without-left x y hx hy =
+    let e : bit_and x (2 ^ 64 - 1 - y) + bit_and x y ≡ x = rw (and_comm x (2 ^ 64 - 1 - y), and_comm x y) (and-not 64 y x hy hx) in
+    omega arith
+
+-- nothing is left of a word without what both have where it has no bit that the other lacks; nothing is in two words where nothing is in either
+left-none : (x y : ℕ) → eqb (x - bit_and x y) 0 ≡ within x y
+left-none x y =
+    let l = and_le_l x y in
+    iff (eqb (x - bit_and x y) 0) (within x y) (λ e. eq-eqb (bit_and x y) x (omega (arith, l, eqb-true (x - bit_and x y) 0 e)))
+    (λ e. eq-eqb (x - bit_and x y) 0 (omega (arith, l, eqb-true (bit_and x y) x e)))
 
 or-none : (x y : ℕ) → eqb (bit_or x y) 0 ≡ eqb x 0 && eqb y 0
 or-none x y =
@@ -173,21 +178,27 @@ or-none x y =
     let w = eqb-true y 0 p.1 in
     eq-eqb (bit_or x y) 0 (omega (arith, s, v, w)))
 
--- a subset, as the code tests it: what is left of the four words, as one
-pub subset-tested : (a b : TagSet) → IsWords a → IsWords b → (s : TagSet)
-    → ((i : ℕ) → i < 4 → get_or s.words i 0 ≡ bit_and (get_or a.words i 0) (2 ^ 64 - 1 - get_or b.words i 0))
-    → eqb (bit_or (bit_or (bit_or (get_or s.words 0 0) (get_or s.words 1 0)) (get_or s.words 2 0)) (get_or s.words 3 0)) 0 ≡ subset_of a b
-subset-tested a b ha hb s h =
-    or-none (bit_or (bit_or (word 0) (word 1)) (word 2)) (word 3)
-    ∙ ap (λ (u : Bool). u && eqb (word 3) 0) (or-none (bit_or (word 0) (word 1)) (word 2) ∙ ap (λ (u : Bool). u && eqb (word 2) 0) (or-none (word 0) (word 1)))
-    ∙ (λ i. tested 0 (lit< tt) i && tested 1 (lit< tt) i && tested 2 (lit< tt) i && tested 3 (lit< tt) i)
+-- a subset, as the code tests it: the four words as one
+pub subset-tested : (a b : TagSet) → IsWords a → IsWords b → {x y z w : ℕ} → x ≡ left a b 0 → y ≡ left a b 1 → z ≡ left a b 2 → w ≡ left a b 3
+    → eqb (bit_or (bit_or (bit_or x y) z) w) 0 ≡ subset_of a b
+subset-tested a b ha hb {x} {y} {z} {w} p q r s =
+    or-none (bit_or (bit_or x y) z) w
+    ∙ ap (λ (u : Bool). u && eqb w 0) (or-none (bit_or x y) z ∙ ap (λ (u : Bool). u && eqb z 0) (or-none x y))
+    ∙ (λ i. word 0 p i && word 1 q i && word 2 r i && word 3 s i)
     ∙ sym (subset-words a b ha hb)
   where
-    word : ℕ → ℕ
-    word i = get_or s.words i 0
+    word : {v : ℕ} (k : ℕ) → v ≡ left a b k → eqb v 0 ≡ within (get_or a.words k 0) (get_or b.words k 0)
+    word k e = ap (λ (u : ℕ). eqb u 0) e ∙ left-none (get_or a.words k 0) (get_or b.words k 0)
 
-    tested : (i : ℕ) → i < 4 → eqb (word i) 0 ≡ within (get_or a.words i 0) (get_or b.words i 0)
-    tested i l = ap (λ (u : ℕ). eqb u 0) (h i l) ∙ left-none (get_or a.words i 0) (get_or b.words i 0) (ha.fits i) (hb.fits i)
+-- the same tags, by their words
+pub same-tested : (a b : TagSet) → IsWords a → IsWords b
+    → same_of a b
+    ≡ eqb (get_or a.words 0 0) (get_or b.words 0 0)
+    && eqb (get_or a.words 1 0) (get_or b.words 1 0)
+    && eqb (get_or a.words 2 0) (get_or b.words 2 0)
+    && eqb (get_or a.words 3 0) (get_or b.words 3 0)
+unfolding same_of
+same-tested = tests-words beq eqb tests_same
 
 -- sets with the same tags have the same words
 pub same-words : (a b : TagSet) → IsWords a → IsWords b → same_of a b ≡ true → (q : ℕ) → q < 4 → word_at a.words q ≡ word_at b.words q
@@ -201,9 +212,12 @@ has-near s t h =
     ap (λ (w : ℕ). bit_at w (t % 64)) (word-near s.words (t / 64) (omega arith))
     ∙ ap (λ (x : ℕ). eqb x 1) (sym (and_mask (get_or s.words (t / 64) 0 / 2 ^ (t % 64)) 1))
 
--- a shift of 1 by less than 64 loses nothing
+-- a shift of 1 by less than 64 loses nothing, and leaves no 0
 shifted : (k : ℕ) → k < 64 → 1 * 2 ^ k % 2 ^ 64 ≡ 2 ^ k
 shifted k h = ap (λ (x : ℕ). x % 2 ^ 64) (one-mul (2 ^ k)) ∙ mod-eq_of_lt (pow-lt h)
+
+pub shifted-pos : (k : ℕ) → k < 64 → 1 ≤ 1 * 2 ^ k % 2 ^ 64
+shifted-pos k h = subst (λ (x : ℕ). 1 ≤ x) (sym (shifted k h)) (pow_pos k)
 
 -- the set of one tag, as the code makes it
 pub single-made : (t : ℕ) → record { words = set zeros (t / 64) (1 * 2 ^ (t % 64) % 2 ^ 64) } ≡ single_of t
@@ -219,3 +233,9 @@ low-all k h = ap (λ (x : ℕ). 2 ^ x - 1) (sym (min-eq_right h))
 
 pub low-some : (k : ℕ) → k < 64 → 1 * 2 ^ k % 2 ^ 64 - 1 ≡ low_ones k
 low-some k h = ap (λ (x : ℕ). x - 1) (shifted k h) ∙ ap (λ (x : ℕ). 2 ^ x - 1) (sym (min-eq_left (le_of_lt h)))
+
+-- the tags below n, as the code makes them
+pub below-made : (n : ℕ) {x y z w : ℕ} → x ≡ low_ones (n - 0) → y ≡ low_ones (n - 64) → z ≡ low_ones (n - 128) → w ≡ low_ones (n - 192)
+    → record { words = x ∷ y ∷ z ∷ w ∷ [] } ≡ below_of n
+unfolding below_of
+below-made n p q r s = λ i. record { words = (p ∙ ap low_ones (sub-zero n)) i ∷ q i ∷ r i ∷ s i ∷ [] }

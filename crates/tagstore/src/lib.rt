@@ -44,6 +44,7 @@ pub fn store_own_tags(words: &mut [u64], n: u32)
 }
 
 // Writes the value over the first m elements, or over all.
+// One by one, since the library's `fill` requires that cloning the value cannot fail, which not every type says.
 pub fn clear<T: Copy>(list: &mut [T], m: usize, zero: T)
     ensures { list.new ≡ filled_front zero m list.old }
 {
