@@ -1,5 +1,7 @@
 -- What is judged decides between 9, 12 and `apply_enable`, which on a usable state has the same outcome. Assumes nothing.
 use Rattle.std.proofs.Common.{rules, ◌≡◌, sym, ◌∙◌, Err}
+use Rattle.refusal.specs.Number.{number_of}
+use Rattle.refusal.proofs.Number.{number-positive}
 use Rattle.state.specs.State.{State, state_of}
 use Rattle.state.proofs.Judging.{judged-usable}
 use Rattle.calls.specs.UnjudgedLaws.{apply-enable}
@@ -15,7 +17,8 @@ pub returns-in_err-judge : goal.returns-in_err-judge
 returns-in_err-judge c =
     let s = at (goal.at.returns-in_err-judge c).Start in
     let e : c.from_residual.result ≡ Err c.in_err-judge.field-0.0 = search rules in
-    rw e (enable-judged s c.in_err-judge.field-0.0 c.in_err-judge.ensures c.args.flow)
+    let r = c.in_err-judge.field-0.0 in
+    rw e (enable-judged s c.args.flow (number_of r) (number-positive r) c.in_err-judge.ensures)
 
 pub returns : goal.returns
 returns c =
