@@ -1,3 +1,4 @@
 pub mod Exact
 pub mod Turns
 pub mod Bench
+pub mod Copied

@@ -1,12 +1,11 @@
 -- What follows from the answer to the question for the set, by which the other questions go on. Assumes nothing.
-use Rattle.std.specs.Prelude.{◌≡◌, ℕ, suc, pred, ◌≤◌, ◌<◌, Result, Ok}
+use Rattle.std.specs.Prelude.{◌≡◌, ℕ, suc, ◌≤◌, ◌<◌, Result, Ok}
 use Rattle.std.proofs.Math.Path.{refl, sym, ap}
-use Rattle.std.proofs.Common.{◌∙◌, le-leb, arith}
+use Rattle.std.proofs.Common.{◌∙◌, le-leb}
 use Rattle.std.proofs.lemmas.Bool.{lt-leb}
 use Rattle.refusal.specs.declared.Refusal.{Refusal}
-use Rattle.refusal.specs.Number.{number_of, refusal_of}
+use Rattle.refusal.specs.Number.{refusal_of}
 use Rattle.refusal.specs.Order.{first_of}
-use Rattle.refusal.proofs.Number.{number-positive}
 use Rattle.tagset.specs.declared.TagSet.{TagSet}
 use Rattle.tagset.specs.Set.{empty_set}
 use Rattle.state.specs.State.{State, set_at}
@@ -18,12 +17,9 @@ use Rattle.question.specs.Laws.{asked-number, asked-by-number, asked-told}
 
 module _ (s : State) (c : ℕ) where
   -- a refusal of the state is the answer
-  pub judged-refused : (q : Refusal) → number_of q ≡ first_of (state_order s) 0
-      → first_of (question_order s c) 0 ≡ number_of q
+  pub judged-refused : (k : ℕ) → first_of (state_order s) 0 ≡ suc k → first_of (question_order s c) 0 ≡ suc k
   unfolding question_order
-  judged-refused q e =
-      let k : suc (pred (number_of q)) ≡ number_of q = omega (arith, number-positive q) in
-      judged-first s (pred (number_of q)) (question_later s c) (sym e ∙ sym k) ∙ k
+  judged-refused k e = judged-first s k (question_later s c) e
 
   -- where there is none, and no such container either, 4 is
   pub judged-missing : first_of (state_order s) 0 ≡ 0 → s.header.containers ≤ c → first_of (question_order s c) 0 ≡ 4

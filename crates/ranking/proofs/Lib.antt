@@ -1,2 +1,3 @@
 pub mod Relation
 pub mod Places
+pub mod Laws

@@ -3,3 +3,4 @@ pub mod Laws
 pub mod Joins
 pub mod Numbers
 pub mod Replies
+pub mod Other

@@ -1,7 +1,9 @@
 -- `tags_of` meets its contract: what is said of the state decides first, then whether there is the container. On a usable state its set is read whole.
 -- Assumes nothing.
-use Rattle.std.proofs.Common.{◌≡◌, Err, sym, ap, ◌∙◌, arith, rules}
+use Rattle.std.proofs.Common.{◌≡◌, suc, pred, Err, sym, ap, ◌∙◌, arith, rules}
 use Rattle.refusal.specs.declared.Refusal.TheVariants.{NoSuchContainer}
+use Rattle.refusal.specs.Number.{number_of}
+use Rattle.refusal.proofs.Number.{number-positive}
 use Rattle.tagset.specs.Set.{empty_set}
 use Rattle.state.specs.State.{state_in, set_at}
 use Rattle.tagstore.specs.Laws.{load-whole}
@@ -18,8 +20,9 @@ returns-in_err-judge c =
     let k = c.args.container in
     let q = c.in_err-judge.field-0.0 in
     let is : c.from_residual.result ≡ Err q = search rules in
-    ap (asked_by empty_set) is
-    ∙ sym (asked-refused empty_set (set_at s.storage.tags k) _ q (judged-refused s k q c.in_err-judge.ensures))
+    let number : suc (pred (number_of q)) ≡ number_of q = omega (arith, number-positive q) in
+    let refused = judged-refused s k (pred (number_of q)) (sym c.in_err-judge.ensures ∙ sym number) ∙ number in
+    ap (asked_by empty_set) is ∙ sym (asked-refused empty_set (set_at s.storage.tags k) _ q refused)
 
 pub returns-then-t-container : goal.returns-then-t-container
 unfolding tags_of
