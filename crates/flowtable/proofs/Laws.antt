@@ -1,5 +1,5 @@
--- Which records of the table stay as they are: all where a record would stand past the end, and in a removal those before
--- the place and those not in use. Assumes nothing.
+-- Which records of the table stay as they are: all where a record would stand past the end, and in a removal those
+-- before the place and those not in use. Assumes nothing.
 use Rattle.std.specs.Prelude.{◌≡◌, refl, List, [], ◌∷◌, ◌++◌, ℕ, suc, ◌+◌, ◌-◌, ◌≤◌, ◌<◌, leb, length, get_or, set, take, drop}
 use Rattle.std.proofs.Common.{sym, ap, ◌∙◌, append_assoc, arith, length-append, length-take, length-drop, get_or-take, get_or-drop, get_or-append-add, leb-false}
 use Rattle.std.proofs.Math.ListN.{get_or-append}
@@ -10,7 +10,8 @@ use Rattle.state.specs.State.{no_flow}
 use Rattle.flowtable.specs.FlowTable.{shifted, removed_at}
 
 -- a table of 512 records has no place from 512 on, where `set` changes nothing
-pub none_past : (flows : List Flow) (count : ℕ) (flow : Flow) → length flows ≡ 512 → 512 ≤ count → flows ≡ set flows count flow
+pub none_past : (flows : List Flow) (count : ℕ) (flow : Flow) → length flows ≡ 512 → 512 ≤ count
+    → flows ≡ set flows count flow
 none_past flows count flow long past = sym (set_out flows count flow (omega arith))
 
 -- a record before the place of a removal is as it was

@@ -6,7 +6,8 @@ use Rattle.std.proofs.KnownBytes.{Appends-trans, Appends-kept}
 use Rattle.stream.specs.Stream.{Begins}
 
 -- the first n bytes came
-pub Begins-at : (a b : Option (List ℕ)) (n : ℕ) (text : List ℕ) → n ≤ length text → Appends a b (take n text) → Begins a b text
+pub Begins-at : (a b : Option (List ℕ)) (n : ℕ) (text : List ℕ) → n ≤ length text → Appends a b (take n text)
+    → Begins a b text
 Begins-at a b n text h wrote = (n, h, wrote)
 
 -- a beginning of the first part
