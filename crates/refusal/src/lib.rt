@@ -1,7 +1,7 @@
 // The refusals (document 01, 'Table of refusals'), and, in specs/, their order for the definitions of the crates above.
 #![tactic(auto)]
 
-ghost use Rattle.std.specs.Prelude.{◌≡◌};
+ghost use Rattle.std.specs.Prelude.{◌≡◌, Some, decimal};
 ghost use Rattle.refusal.specs.Number.{number_of};
 
 use std::fmt;
@@ -42,6 +42,8 @@ impl From<Refusal> for u32 {
 }
 
 impl fmt::Display for Refusal {
+    ghost output = { λ refusal. Some (decimal (number_of refusal)) };
+
     // The paper's number, in decimal.
     fn fmt<W: fmt::Write>(&self, f: &mut fmt::Formatter<W>) -> fmt::Result {
         write!(f, "{}", u32::from(*self))
