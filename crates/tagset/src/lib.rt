@@ -3,7 +3,7 @@
 
 ghost use Rattle.std.specs.Prelude.{◌≡◌, ◌-◌, ◌<◌, ℕ, get_or};
 ghost use Rattle.tagset.specs.Set.{has, empty_set, single_of, low_ones, below_of};
-ghost use Rattle.tagset.specs.Set.{union_of, intersection_of, subset_of, exceeds_of, size_of};
+ghost use Rattle.tagset.specs.Set.{union_of, intersection_of, subset_of, same_of, exceeds_of, size_of};
 
 // Two sets are equal where they have the same tags (proofs/Equal.antt).
 #[repr(C)]
@@ -71,6 +71,13 @@ impl TagSet {
     {
         let [a, b, c, d] = self.each(other, |a, b| a & !b).words;
         a | b | c | d == 0
+    }
+
+    // Whether both sets have the same tags.
+    pub fn equals(self, other: TagSet) -> bool
+        ensures { result ≡ same_of self other }
+    {
+        self == other
     }
 
     // Whether some tag of the set is n or more.
