@@ -35,7 +35,8 @@ pub fn judge(t: &Tracker) -> Result<(), Refusal>
     Ok(())
 }
 
-// Whether n is 0 or above 256, or the four lent lists, of these lengths, are too short for n containers.
+// Whether n is 0 or above 256, or the four lent lists, of these lengths, are too short for n containers. It takes the
+// lengths one by one: a struct of the four would be made at each call only to be taken apart.
 pub fn bad_size(n: u32, tags: usize, policies: usize, counts: usize, flows: usize) -> bool
     ensures { result ≡ short_of n tags policies counts flows }
 {
@@ -112,7 +113,9 @@ fn set_at(words: &[u64], k: usize) -> TagSet
     }
 }
 
-// Whether the enabled flows' numbers rise from at least 1, and each flow is valid.
+// Whether the enabled flows' numbers rise from at least 1, and each flow is valid. The bound on the words is asked here
+// and by `flow_valid`: a struct of header and words would hold again what the `Tracker` holds, and state the bound once
+// more.
 fn flows_valid(header: Header, tags: &[u64], flows: &[Flow]) -> bool
     requires { 4 * header.containers ≤ length tags.now }
     ensures { result ≡ flows_valid header tags.now 0 flows.now }

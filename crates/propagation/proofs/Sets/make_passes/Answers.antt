@@ -1,7 +1,7 @@
 -- `make_passes` meets its contract. A pass: the edges of the flows so far are carried, `added` is what was new, and
 -- the sets that changed lie from `first` up to `end`. The passes: those made are not all (`Underway`), and the sets
 -- found are those that they left; measured by those left. Assumes nothing.
-use Rattle.std.proofs.Common.{ap, ◌∙◌, subst, inl, List, ℕ, ◌+◌, ◌*◌, ◌≤◌, length, get_or, take, arith, take_all}
+use Rattle.std.proofs.Common.{refl, ap, ◌∙◌, subst, inl, List, ℕ, ◌+◌, ◌*◌, ◌≤◌, length, get_or, take, arith, take_all}
 use Rattle.model.specs.declared.Flow.{Flow}
 use Rattle.model.specs.Model.{edges, edges_of}
 use Rattle.state.specs.State.{set_at, no_flow}
@@ -9,12 +9,12 @@ use Rattle.propagation.specs.Exact.{passes-most}
 use Rattle.propagation.specs.Found.{all_found, found-again}
 use Rattle.propagation.specs.Turns.{Carried, adds-inside, found-carried, carried_none, none_made}
 use Rattle.propagation.proofs.Turns.{carried-fits, flow-carried, gain-fits, one-made, all_made}
-use Rattle.propagation.proofs.make_passes.Goals as goal
-use Rattle.propagation.proofs.make_passes.Goals.{At-passes, After-loop-flow, After-carry_flow-new}
-use Rattle.propagation.proofs.make_passes.Goals.{then-new-ne0, else-new-ne0}
+use Rattle.propagation.proofs.Sets.make_passes.Goals as goal
+use Rattle.propagation.proofs.Sets.make_passes.Goals.{At-passes, After-loop-flow, After-carry_flow-new}
+use Rattle.propagation.proofs.Sets.make_passes.Goals.{then-new-ne0, else-new-ne0}
 
 -- the words have n sets at each pass
-room : (c : At-passes) → 4 * c.args.n ≤ length c.passes.tags
+room : (c : At-passes) → 4 * c.args.self.now.n ≤ length c.passes.self.words.now
 room c = omega arith
 
 -- the flow of a turn, and what it carries
@@ -22,33 +22,42 @@ abbrev flow : After-carry_flow-new → Flow
 flow c = get_or c.args.flows.now c.loop-flow.flow-index no_flow
 
 one : (c : After-carry_flow-new)
-    → Carried c.args.n c.passes.found (edges (flow c)) c.loop-flow.tags c.carry_flow-new.new.tags
-    c.carry_flow-new.result
-one c = record { sets = c.carry_flow-new.ensures.sets; count = c.carry_flow-new.ensures.gain }
+    → Carried c.args.self.now.n c.passes.found (edges (flow c)) c.loop-flow.self.words.now
+    c.carry_flow-new.new.self.words.now c.carry_flow-new.result
+one c =
+    let carry = c.carry_flow-new.ensures in
+    let same = c.loop-flow.invariant.same in record { sets = rw same at carry.sets; count = rw same at carry.gain }
 
 -- with the flows before it
 turn : (c : After-carry_flow-new)
-    → Carried c.args.n c.passes.tags (edges_of (take (c.loop-flow.flow-index + 1) c.args.flows.now)) c.passes.tags
-    c.carry_flow-new.new.tags (c.loop-flow.added + c.carry_flow-new.result)
+    → Carried c.args.self.now.n c.passes.self.words.now
+    (edges_of (take (c.loop-flow.flow-index + 1) c.args.flows.now)) c.passes.self.words.now
+    c.carry_flow-new.new.self.words.now (c.loop-flow.added + c.carry_flow-new.result)
 turn c =
     flow-carried c.args.flows.now c.loop-flow.flow-index no_flow (omega arith) c.passes.invariant.found
     c.loop-flow.invariant.carried (one c)
 
 -- all turns are a pass
 pass : (c : After-loop-flow)
-    → Carried c.args.n c.passes.tags (edges_of c.args.flows.now) c.passes.tags c.loop-flow.tags c.loop-flow.added
+    → Carried c.args.self.now.n c.passes.self.words.now (edges_of c.args.flows.now) c.passes.self.words.now
+    c.loop-flow.self.words.now c.loop-flow.added
 pass c = rw (take_all c.loop-flow.flow-index c.args.flows.now (omega arith)) at c.loop-flow.invariant.carried
 
 pub passes-init : goal.passes-init
 passes-init c = record {
+  same = refl;
+  place = refl;
+  long = c.type_inv.found;
   found = λ a l. ap (λ (x : List ℕ). set_at x a) c.copy_sets.ensures
-      ∙ found-again 0 c.args.n c.args.tags.now _ (omega arith) (omega arith) (omega arith)
+      ∙ found-again 0 c.args.self.now.n c.args.self.now.words.now _ (omega arith) (omega arith) (omega arith)
       (record { at = λ b h. inl (omega arith, h) }) a l;
   made = none_made _ _ _;
 }
 
 pub loop-flow-init : goal.loop-flow-init
 loop-flow-init c = record {
+  same = c.passes.invariant.same;
+  place = refl;
   within = omega arith;
   some = λ h. omega arith;
   found = all_found c.passes.invariant.found;
@@ -71,6 +80,8 @@ loop-flow-preserved c =
     let before = c.loop-flow.invariant in
     elim c.if-new-ne0.branch [
       | then-new-ne0 w ↦ let to = adds-inside (flow here) (one here) w.if-new-ne0.true in record {
+        same = c.carry_flow-new.ensures.same.0 ∙ before.same;
+        place = c.carry_flow-new.ensures.same.1 ∙ before.place;
         within = omega (arith, w.end-is, w.max-end.ensures, to, before.within);
         some = λ h. omega (arith, w.first-is, w.end-is, w.min-first.ensures, w.max-end.ensures);
         found = rw (w.first-is, w.end-is, w.min-first.ensures, w.max-end.ensures)
@@ -78,6 +89,8 @@ loop-flow-preserved c =
         carried = rw w.added-is (turn here);
       }
       | else-new-ne0 w ↦ record {
+        same = c.carry_flow-new.ensures.same.0 ∙ before.same;
+        place = c.carry_flow-new.ensures.same.1 ∙ before.place;
         within = omega (arith, w.end-is, before.within);
         some = λ h. rw (w.first-is, w.end-is) (before.some (omega (arith, w.added-is, h)));
         found = rw (w.first-is, w.end-is, c.carry_flow-new.ensures.none w.if-new-ne0.false) before.found;
@@ -87,7 +100,8 @@ loop-flow-preserved c =
 
 pub overflow_add-passes : goal.overflow_add-passes
 overflow_add-passes c =
-    omega (arith, c.passes.invariant.made.fewer, passes-most c.args.n (edges_of c.args.flows.now) c.args.tags.now)
+    let s = c.args.self.now in
+    omega (arith, c.passes.invariant.made.fewer, passes-most s.n (edges_of c.args.flows.now) s.words.now)
 
 pub overflow_add-gain : goal.overflow_add-gain
 overflow_add-gain c =
@@ -97,18 +111,22 @@ overflow_add-gain c =
 pub copy_sets-requires-in-passes : goal.copy_sets-requires-in-passes
 copy_sets-requires-in-passes c =
     let some = c.loop-flow.invariant.some (omega arith) in
-    (omega arith, omega arith, omega arith)
+    (omega arith, omega (arith, c.loop-flow.invariant.same))
 
 pub passes-smaller : goal.passes-smaller
-passes-smaller c = omega (arith, c.passes.invariant.made.fewer)
+passes-smaller c = omega (arith, c.loop-flow.invariant.same, c.passes.invariant.made.fewer)
 
 pub passes-preserved : goal.passes-preserved
 passes-preserved c =
     let there = goal.at.passes-preserved c in
     let some = c.loop-flow.invariant.some (omega arith) in
+    let n = c.loop-flow.invariant.same in
     let again =
-    found-again c.loop-flow.first c.loop-flow.end c.loop-flow.tags c.passes.found (omega arith) (omega arith)
-    (omega arith) c.loop-flow.invariant.found in record {
+    found-again c.loop-flow.first c.loop-flow.end c.loop-flow.self.words.now c.passes.found (omega arith)
+    (omega (arith, n)) (omega (arith, n, c.passes.invariant.long)) c.loop-flow.invariant.found in record {
+      same = n;
+      place = c.loop-flow.invariant.place ∙ c.passes.invariant.place;
+      long = c.type_inv.found;
       found = λ a l. ap (λ (x : List ℕ). set_at x a) c.copy_sets-in-passes.ensures ∙ again a l;
       made = one-made (room there.At-passes) c.passes.invariant.made (pass there.After-loop-flow) (omega arith);
     }
@@ -118,4 +136,9 @@ returns c =
     let there = goal.at.returns c in
     let all =
     all_made (room there.At-passes) c.passes.invariant.made (pass there.After-loop-flow) c.if-added-eq0.true in
-    record { sets = all.0; passes = all.1.0; gain = all.1.1 }
+    record {
+      same = c.loop-flow.invariant.place ∙ c.passes.invariant.place;
+      passes = all.1.0;
+      sets = rw all.1.0 all.0;
+      gain = rw all.1.0 all.1.1;
+    }

@@ -1,5 +1,5 @@
 -- `carry` meets its contract: the set that it puts is the union of those that it reads, by the laws of one edge. Assumes nothing.
-use mathlib.Core.Path.{◌≡◌, sym, ap, ap₂, ◌∙◌}
+use mathlib.Core.Path.{◌≡◌, refl, sym, ap, ap₂, ◌∙◌}
 use mathlib.Core.Bool.{true}
 use mathlib.Core.List.{List}
 use mathlib.Core.Logic.{◌⊎◌, inl, inr}
@@ -7,24 +7,22 @@ use Prim.Native.Nat.{ℕ, ◌+◌, ◌*◌, ◌≤◌, ◌<◌}
 use native.Mathlib.Omega.{arith}
 use lib.ListN.{length}
 use borrow.Author.Rules.{rules}
+use Rattle.std.proofs.Math.Path.{subst}
 use Rattle.tagset.specs.declared.TagSet.{TagSet}
 use Rattle.tagset.specs.Set.{union_of, subset_of, size_of}
+use Rattle.tagset.proofs.Laws.{union-words}
 use Rattle.state.specs.Layout.{Fit64}
 use Rattle.state.specs.State.{set_at}
+use Rattle.state.proofs.LayoutLaws.{set-fits}
 use Rattle.tagstore.specs.Store.{put_set, load_of, store_of}
 use Rattle.tagstore.specs.Laws.{load-whole, store-whole}
+use Rattle.tagstore.proofs.Put.{put-fits}
 use Rattle.propagation.specs.Pass.{inside, carried, new_tags}
 use Rattle.propagation.specs.Exact.{inside-iff, edge-inside}
 use Rattle.propagation.specs.Turns.{edge-past, edge_same, edge_none}
-use Rattle.propagation.proofs.carry.Goals as goal
-use Rattle.propagation.proofs.carry.Goals.{Else-n-b, After-size-2}
-use Rattle.propagation.proofs.carry.Goals.{then-n-a-via-then-n-a, then-n-a-via-else-n-a+then-n-b}
-
--- the two facts of an edge, and that the words stay where it adds no tag
-all : (n : ℕ) (found : List ℕ) (e : ℕ × ℕ) (tags : List ℕ) → Fit64 found → Fit64 tags → (ws : List ℕ) (r : ℕ)
-    → (ws ≡ carried n found e tags) × (r ≡ new_tags n found e tags)
-    → (ws ≡ carried n found e tags) × ((r ≡ new_tags n found e tags) × (r ≡ 0 → ws ≡ tags))
-all n found e tags ff fw ws r (sets, gain) = (sets, (gain, λ z. sets ∙ edge_none n found e tags ff fw (sym gain ∙ z)))
+use Rattle.propagation.proofs.Sets.carry.Goals as goal
+use Rattle.propagation.proofs.Sets.carry.Goals.{Else-self-b, After-size-2}
+use Rattle.propagation.proofs.Sets.carry.Goals.{then-self-a-via-then-self-a, then-self-a-via-else-self-a+then-self-b}
 
 -- both ends of the edge (a, b) are below n, and the words have n sets, each word of 64 bits
 record Inside (n a b : ℕ) (found tags : List ℕ) : Type 0 where
@@ -69,51 +67,70 @@ module _ {n a b : ℕ} {found tags : List ℕ} (i : Inside n a b found tags) whe
   stored {new = new} o s u w =
       w ∙ store-whole tags b new (omega (arith, i.to, i.long_tags)) ∙ ap (put_set tags b) (new_is o s u) ∙ sym (edge-inside n found (a, b) tags within).0
 
+  -- and each word has 64 bits still
+  still : {ws : List ℕ} → ws ≡ carried n found (a, b) tags → Fit64 ws
+  still e =
+      subst Fit64 (sym (e ∙ (edge-inside n found (a, b) tags within).0))
+      (put-fits tags b (union_of (set_at tags b) (set_at found a))
+      (union-words (set_at tags b) (set_at found a) (set-fits tags b i.fit_tags) (set-fits found a i.fit_found)) i.fit_tags)
+
 -- past both tests
-inner : (c : Else-n-b) → Inside c.args.n c.args.a c.args.b c.args.found.now c.args.tags.now
+inner : (c : Else-self-b) → Inside c.args.self.now.n c.args.a c.args.b c.args.found.now c.args.self.now.words.now
 inner c = record {
-  from = c.if-n-a.false;
-  to = c.if-n-b.false;
+  from = c.if-self-a.false;
+  to = c.if-self-b.false;
   long_found = omega arith;
   long_tags = omega arith;
-  fit_found = λ i. (c.type_inv.found i).fits;
-  fit_tags = λ i. search rules;
+  fit_found = λ i. search rules;
+  fit_tags = c.args.self.now.fit;
 }
 
 -- the sizes of the two sets differ by the new tags
-larger : (c : After-size-2) → Inside c.args.n c.args.a c.args.b c.args.found.now c.args.tags.now
-    → c.size.result ≡ c.size-2.result + new_tags c.args.n c.args.found.now (c.args.a, c.args.b) c.args.tags.now
+larger : (c : After-size-2) → Inside c.args.self.now.n c.args.a c.args.b c.args.found.now c.args.self.now.words.now
+    → c.size.result
+    ≡ c.size-2.result + new_tags c.args.self.now.n c.args.found.now (c.args.a, c.args.b) c.args.self.now.words.now
 larger c i =
-    omega (arith, c.size.ensures, c.size-2.ensures, sizes i c.load_set-old.ensures c.load_set-source.ensures c.union-new.ensures)
+    omega (
+      arith,
+      c.size.ensures,
+      c.size-2.ensures,
+      sizes i c.load_set-old.ensures c.load_set-source.ensures c.union-new.ensures,
+    )
 
-pub returns-then-n-a : goal.returns-then-n-a
-returns-then-n-a c =
-    let past : (c.args.n ≤ c.args.a) ⊎ (c.args.n ≤ c.args.b) = elim c.then-n-a.branch [
-      | then-n-a-via-then-n-a w ↦ inl w.if-n-a.true
-      | then-n-a-via-else-n-a+then-n-b w ↦ inr w.if-n-b.true
+pub returns-then-self-a : goal.returns-then-self-a
+returns-then-self-a c =
+    let s = c.args.self.now in
+    let past : (s.n ≤ c.args.a) ⊎ (s.n ≤ c.args.b) = elim c.then-self-a.branch [
+      | then-self-a-via-then-self-a w ↦ inl w.if-self-a.true
+      | then-self-a-via-else-self-a+then-self-b w ↦ inr w.if-self-b.true
     ] in
-    let e = edge-past c.args.n c.args.found.now (c.args.a, c.args.b) c.args.tags.now past in
-    let both = all c.args.n c.args.found.now (c.args.a, c.args.b) c.args.tags.now (λ i. (c.type_inv.found i).fits) (λ i. (c.type_inv.tags i).fits) c.args.tags.now 0 e in
-    record { sets = both.0; gain = both.1.0; none = both.1.1 }
+    let e = edge-past s.n c.args.found.now (c.args.a, c.args.b) s.words.now past in
+    record { same = (refl, refl); sets = e.0; gain = e.1; none = λ z. refl }
 
 pub returns-then-is_subset : goal.returns-then-is_subset
 returns-then-is_subset c =
-    let i = inner (goal.at.returns-then-is_subset c).Else-n-b in
+    let i = inner (goal.at.returns-then-is_subset c).Else-self-b in
     let e = same i c.load_set-old.ensures c.load_set-source.ensures (sym c.is_subset.ensures ∙ c.if-is_subset.true) in
-    let both = all c.args.n c.args.found.now (c.args.a, c.args.b) c.args.tags.now i.fit_found i.fit_tags c.args.tags.now 0 e in
-    record { sets = both.0; gain = both.1.0; none = both.1.1 }
+    record { same = (refl, refl); sets = e.0; gain = e.1; none = λ z. refl }
+
+pub invariant_of-self-2-clause-fit : goal.invariant_of-self-2-clause-fit
+invariant_of-self-2-clause-fit c =
+    let i = inner (goal.at.invariant_of-self-2-clause-fit c).Else-self-b in
+    still i (stored i c.load_set-old.ensures c.load_set-source.ensures c.union-new.ensures c.store_set.ensures)
 
 pub overflow_sub-result : goal.overflow_sub-result
 overflow_sub-result c =
-    omega (arith, larger (goal.at.overflow_sub-result c).After-size-2 (inner (goal.at.overflow_sub-result c).Else-n-b))
+    let there = goal.at.overflow_sub-result c in omega (arith, larger there.After-size-2 (inner there.Else-self-b))
 
 pub returns : goal.returns
 returns c =
-    let i = inner (goal.at.returns c).Else-n-b in
+    let s = c.args.self.now in
+    let i = inner (goal.at.returns c).Else-self-b in
     let gain = larger (goal.at.returns c).After-size-2 i in
     let sets = stored i c.load_set-old.ensures c.load_set-source.ensures c.union-new.ensures c.store_set.ensures in
-    record {
+    let edge = edge_none s.n c.args.found.now (c.args.a, c.args.b) s.words.now i.fit_found i.fit_tags in record {
+      same = (refl, refl);
       sets = sets;
       gain = omega (arith, gain);
-      none = λ z. sets ∙ edge_none c.args.n c.args.found.now (c.args.a, c.args.b) c.args.tags.now i.fit_found i.fit_tags (omega (arith, gain, z));
+      none = λ z. sets ∙ edge (omega (arith, gain, z));
     }
