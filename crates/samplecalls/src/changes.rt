@@ -1,13 +1,11 @@
 // The calls that change a tracker.
-ghost use Rattle.std.specs.Prelude.{◌≤◌};
-
 use crate::asks::header_text;
 use crate::book::Book;
 use calls::Accepted;
 use model::Flow;
 use refusal::Refusal;
 use sampleline::print::refused;
-use sampleline::{Line, set_of};
+use sampleline::{Line, set_of, small};
 use state::Header;
 use std::io;
 use std::io::Write;
@@ -37,19 +35,17 @@ pub fn enable<W: Write>(out: &mut W, line: &Line, book: Book) -> io::Result<()> 
         counts,
         flows,
     } = book;
-    let flow = flow_of(line, 0);
+    let flow = flow_of(line.from(0));
     let reply = calls::enable(*header, tags, policies, counts, flows, flow);
     told(out, header, reply)
 }
 
-// The flow whose number and ends begin with the i-th number.
-pub fn flow_of(line: &Line, i: usize) -> Flow
-    requires { i ≤ 8 }
-{
+// The flow whose number and ends these numbers begin with.
+pub fn flow_of(numbers: &[u64]) -> Flow {
     Flow {
-        number: line.small(i),
-        from: line.small(i + 1),
-        to: line.small(i + 2),
+        number: small(numbers, 0),
+        from: small(numbers, 1),
+        to: small(numbers, 2),
     }
 }
 

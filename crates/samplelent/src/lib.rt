@@ -38,7 +38,7 @@ pub fn lent<W: Write>(out: &mut W, line: &Line, bytes: &[u8], book: Book) -> io:
         counts,
         ..
     } = book;
-    let (mut after, reply) = go_on(bytes, tags, policies, counts, content, flow_of(line, 0));
+    let (mut after, reply) = go_on(bytes, tags, policies, counts, content, flow_of(line.from(0)));
     told(out, &mut after, reply)?;
     out.write_all(b", ")?;
     header_text(out, after)

@@ -37,7 +37,7 @@ impl Line<'_> {
 
     // The same as a number of 32 bits.
     pub fn small(&self, i: usize) -> u32 {
-        (self.get(i) % 4294967296) as u32
+        small(&self.numbers, i)
     }
 
     // The numbers from the i-th on.
@@ -70,6 +70,11 @@ fn number_of(digits: &[u8]) -> u64 {
             .wrapping_add((u64::from(*digit) + 2) % 10);
     }
     value
+}
+
+// The i-th of these numbers modulo 2 ^ 32, 0 past the last.
+pub fn small(numbers: &[u64], i: usize) -> u32 {
+    (numbers.get(i).copied().unwrap_or(0) % 4294967296) as u32
 }
 
 // The set of these tags.

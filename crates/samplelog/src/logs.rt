@@ -1,9 +1,7 @@
 // Records and heads, read and written.
-ghost use Rattle.std.specs.Prelude.{◌≤◌};
-
 use eventlog::Event;
 use refusal::Refusal;
-use sampleline::Line;
+use sampleline::{Line, small};
 use sampleline::print::{refused, written};
 use std::io;
 use std::io::Write;
@@ -60,25 +58,23 @@ pub fn item<W: Write>(out: &mut W, line: &Line, bytes: &[u8]) -> io::Result<()> 
     Ok(())
 }
 
-// The event of the numbers from the i-th on: a disable, where there is no more than its number.
-fn event_of(line: &Line, i: usize) -> Event
-    requires { i ≤ 8 }
-{
-    let number = line.small(i);
-    if line.from(i).len() == 1 {
+// The event of these numbers: a disable, where there is no more than its number.
+fn event_of(numbers: &[u64]) -> Event {
+    let number = small(numbers, 0);
+    if numbers.len() == 1 {
         return Event::Disable { number };
     }
     Event::Enable {
         number,
-        from: line.small(i + 1),
-        to: line.small(i + 2),
+        from: small(numbers, 1),
+        to: small(numbers, 2),
     }
 }
 
 // `write P K` or `write P K F T`: the record of this event, written at position P of eight bytes of 7.
 pub fn write<W: Write>(out: &mut W, line: &Line) -> io::Result<()> {
     let mut left = [7u8; 8];
-    let reply = eventlog::write_record(&mut left, line.get(0) as usize, event_of(line, 1));
+    let reply = eventlog::write_record(&mut left, line.get(0) as usize, event_of(line.from(1)));
     written(out, reply, &left)
 }
 
@@ -91,5 +87,5 @@ pub fn begin<W: Write>(out: &mut W, line: &Line) -> io::Result<()> {
 
 // `bytes K` or `bytes K F T`: how many bytes the record of this event takes.
 pub fn bytes<W: Write>(out: &mut W, line: &Line) -> io::Result<()> {
-    write!(out, ": {}", eventlog::record_len(event_of(line, 0)))
+    write!(out, ": {}", eventlog::record_len(event_of(line.from(0))))
 }

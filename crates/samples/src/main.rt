@@ -67,7 +67,7 @@ fn lend<W: Write>(
 ) -> io::Result<()> {
     match line.word {
         b"flow" => {
-            pokes::put(flows, line.get(0), flow_of(line, 1));
+            pokes::put(flows, line.get(0), flow_of(line.from(1)));
             Ok(())
         }
         b"list" => asks::list(out, *header, flows),
