@@ -34,7 +34,9 @@ impl Room {
     }
 }
 
-// The script's tracker: its header, and what is lent of the lists.
+// The script's tracker: its header, and what is lent of the lists. A list that a call only reads is handed to it as
+// `&mut *book.tags`: `book.tags` is then a read of the book while another list of it is lent, for which the borrow
+// checker has no rule.
 #[derive(Drop)]
 pub struct Book<'a> {
     pub header: &'a mut Header,

@@ -11,33 +11,28 @@ use std::io;
 use std::io::Write;
 
 // `start N`, with the header that comes back: that of no tracker where it is refused.
-pub fn start<W: Write>(out: &mut W, line: &Line, book: Book) -> io::Result<()> {
-    let Book {
-        header,
-        tags,
-        policies,
-        counts,
-        flows,
-    } = book;
-    *header = Header::NONE;
-    let reply = calls::start(line.small(0), tags, policies, counts, flows);
-    told(out, header, reply)?;
+pub fn start<W: Write>(out: &mut W, line: &Line, book: &mut Book) -> io::Result<()> {
+    *book.header = Header::NONE;
+    let n = line.small(0);
+    let reply = calls::start(n, book.tags, book.policies, book.counts, book.flows);
+    told(out, book.header, reply)?;
     out.write_all(b", ")?;
-    header_text(out, *header)
+    header_text(out, *book.header)
 }
 
 // `enable K F T`.
-pub fn enable<W: Write>(out: &mut W, line: &Line, book: Book) -> io::Result<()> {
-    let Book {
-        header,
-        tags,
-        policies,
-        counts,
-        flows,
-    } = book;
+pub fn enable<W: Write>(out: &mut W, line: &Line, book: &mut Book) -> io::Result<()> {
     let flow = flow_of(line.from(0));
-    let reply = calls::enable(*header, tags, policies, counts, flows, flow);
-    told(out, header, reply)
+    let now = *book.header;
+    let reply = calls::enable(
+        now,
+        book.tags,
+        &mut *book.policies,
+        &mut *book.counts,
+        book.flows,
+        flow,
+    );
+    told(out, book.header, reply)
 }
 
 // The flow whose number and ends these numbers begin with.
@@ -50,51 +45,56 @@ pub fn flow_of(numbers: &[u64]) -> Flow {
 }
 
 // `disable K`.
-pub fn disable<W: Write>(out: &mut W, line: &Line, book: Book) -> io::Result<()> {
-    let Book {
-        header,
-        tags,
-        policies,
-        counts,
-        flows,
-    } = book;
+pub fn disable<W: Write>(out: &mut W, line: &Line, book: &mut Book) -> io::Result<()> {
     let number = line.small(0);
-    let reply = calls::disable(*header, tags, policies, counts, flows, number);
-    told(out, header, reply)
+    let now = *book.header;
+    let reply = calls::disable(
+        now,
+        &mut *book.tags,
+        &mut *book.policies,
+        &mut *book.counts,
+        book.flows,
+        number,
+    );
+    told(out, book.header, reply)
 }
 
 // `add C T..`: the policy set of these tags.
-pub fn add<W: Write>(out: &mut W, line: &Line, book: Book) -> io::Result<()> {
-    let Book {
-        header,
-        tags,
-        policies,
-        counts,
-        flows,
-    } = book;
+pub fn add<W: Write>(out: &mut W, line: &Line, book: &mut Book) -> io::Result<()> {
     let c = line.small(0);
     let policy = set_of(line.from(1));
-    let reply = calls::add_policy(*header, tags, policies, counts, flows, c, policy);
-    told(out, header, reply)
+    let now = *book.header;
+    let reply = calls::add_policy(
+        now,
+        &mut *book.tags,
+        book.policies,
+        book.counts,
+        &mut *book.flows,
+        c,
+        policy,
+    );
+    told(out, book.header, reply)
 }
 
 // `fill N`: enables N flows from 0 to 1, each with the next number. Nothing is printed.
-pub fn fill(line: &Line, book: Book) {
-    let Book {
-        header,
-        tags,
-        policies,
-        counts,
-        flows,
-    } = book;
+pub fn fill(line: &Line, book: &mut Book) {
     for _ in 0..line.small(0) {
+        let now = *book.header;
         let flow = Flow {
-            number: header.greatest % 65536 + 1,
+            number: now.greatest % 65536 + 1,
             from: 0,
             to: 1,
         };
-        if let Ok(accepted) = calls::enable(*header, tags, policies, counts, flows, flow) {
-            *header = accepted.header;
+        let reply = calls::enable(
+            now,
+            book.tags,
+            &mut *book.policies,
+            &mut *book.counts,
+            book.flows,
+            flow,
+        );
+        if let Ok(accepted) = reply {
+            *book.header = accepted.header;
         }
     }
 }

@@ -26,19 +26,14 @@ pub fn go_on(
 }
 
 // `lent K F T B..`: a log replayed and a flow enabled after it by the public calls, on a lent table of other content. The script's header and table stay.
-pub fn lent<W: Write>(out: &mut W, line: &Line, bytes: &[u8], book: Book) -> io::Result<()> {
+pub fn lent<W: Write>(out: &mut W, line: &Line, bytes: &[u8], book: &mut Book) -> io::Result<()> {
     let content = Flow {
         number: 7,
         from: 8,
         to: 9,
     };
-    let Book {
-        tags,
-        policies,
-        counts,
-        ..
-    } = book;
-    let (mut after, reply) = go_on(bytes, tags, policies, counts, content, flow_of(line.from(0)));
+    let flow = flow_of(line.from(0));
+    let (mut after, reply) = go_on(bytes, book.tags, book.policies, book.counts, content, flow);
     told(out, &mut after, reply)?;
     out.write_all(b", ")?;
     header_text(out, after)

@@ -1,32 +1,36 @@
 // Lines of a script, and what is printed of them. A line is a word, and behind it numbers with single spaces between them.
 #![tactic(auto)]
 
+ghost use Rattle.std.specs.Prelude.{◌≤◌};
+
 pub mod print;
 
-use std::alloc::{AllocError, Global};
+use arrayvec::ArrayVec;
 use tagset::TagSet;
 
 // A line: its word, and the numbers behind it, at most 64.
 #[derive(Drop)]
 pub struct Line<'a> {
     pub word: &'a [u8],
-    numbers: Vec<u64>,
+    numbers: ArrayVec<u64, 64>,
 }
 
 impl Line<'_> {
-    // Takes a line apart.
-    pub fn of(alloc: Global, text: &[u8]) -> Result<Line<'_>, AllocError> {
+    // Takes a line apart. Numbers past the 64th are left out.
+    pub fn of(text: &[u8]) -> Line<'_> {
         let mut words = text.split(|byte| *byte == b' ');
         let word = words.next().unwrap_or(&[]);
-        let mut numbers = Vec::new(alloc);
-        for digits in words.take(64) {
-            numbers.push(number_of(digits))?;
+        let mut numbers = ArrayVec::new();
+        for digits in words {
+            let _ = numbers.try_push(number_of(digits));
         }
-        Ok(Line { word, numbers })
+        Line { word, numbers }
     }
 
     // How many numbers there are.
-    pub fn count(&self) -> usize {
+    pub fn count(&self) -> usize
+        ensures { result ≤ 64 }
+    {
         self.numbers.len()
     }
 
@@ -46,15 +50,13 @@ impl Line<'_> {
     }
 
     // The numbers from the i-th on as bytes, or nothing where there are not so many.
-    pub fn bytes(&self, alloc: Global, i: usize) -> Result<Option<Vec<u8>>, AllocError> {
-        let Some(numbers) = self.numbers.get(i..) else {
-            return Ok(None);
-        };
-        let mut bytes = Vec::new(alloc);
+    pub fn bytes(&self, i: usize) -> Option<ArrayVec<u8, 64>> {
+        let numbers = self.numbers.get(i..)?;
+        let mut bytes = ArrayVec::new();
         for number in numbers {
-            bytes.push((*number % 256) as u8)?;
+            let _ = bytes.try_push((*number % 256) as u8);
         }
-        Ok(Some(bytes))
+        Some(bytes)
     }
 }
 

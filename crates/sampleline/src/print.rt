@@ -33,6 +33,17 @@ pub fn refused<W: Write>(out: &mut W, refusal: Refusal) -> io::Result<()> {
     write!(out, ": refused {refusal}")
 }
 
+// Writes what reading answers: what was read, and the position after it.
+pub fn read<W: Write, T: Display + Drop>(
+    out: &mut W,
+    reply: Result<(T, usize), Refusal>,
+) -> io::Result<()> {
+    match reply {
+        Ok((value, next)) => write!(out, ": {value}, next {next}"),
+        Err(refusal) => refused(out, refusal),
+    }
+}
+
 // Writes what writing answers, and what it leaves.
 pub fn written<W: Write>(
     out: &mut W,

@@ -1,8 +1,8 @@
 // Records and heads, read and written.
 use eventlog::Event;
 use refusal::Refusal;
-use sampleline::{Line, small};
 use sampleline::print::{refused, written};
+use sampleline::{Line, small};
 use std::io;
 use std::io::Write;
 

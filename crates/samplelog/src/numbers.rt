@@ -1,6 +1,6 @@
 // Numbers in groups of seven bits.
 use sampleline::Line;
-use sampleline::print::{refused, spaced, written};
+use sampleline::print::{read, spaced, written};
 use std::io;
 use std::io::Write;
 
@@ -20,10 +20,10 @@ pub fn number<W: Write>(out: &mut W, line: &Line) -> io::Result<()> {
 
 // `decode W P B..`: the number of at most W bits at position P of the bytes.
 pub fn decode<W: Write>(out: &mut W, line: &Line, bytes: &[u8]) -> io::Result<()> {
-    match leb128::decode(bytes, line.get(1) as usize, line.small(0)) {
-        Ok((value, next)) => write!(out, ": {value}, next {next}"),
-        Err(refusal) => refused(out, refusal),
-    }
+    read(
+        out,
+        leb128::decode(bytes, line.get(1) as usize, line.small(0)),
+    )
 }
 
 // `put P V`: V written at position P of three bytes of 7.

@@ -1,5 +1,7 @@
 // Large logs, written and then run.
-use crate::runs::{replay_text, tally_text};
+ghost use Rattle.std.specs.Iterator.{IsFinite};
+
+use crate::runs::{replay_log, tally};
 use eventlog::Event;
 use samplecalls::book::Book;
 use sampleline::Line;
@@ -7,57 +9,51 @@ use std::io;
 use std::io::Write;
 
 // `large K`: the K-th of the logs below, replayed, and its text.
-pub fn large<W: Write>(out: &mut W, line: &Line, book: Book) -> io::Result<()> {
-    let Book {
-        header,
-        tags,
-        policies,
-        counts,
-        flows,
-    } = book;
+pub fn large<W: Write>(out: &mut W, line: &Line, book: &mut Book) -> io::Result<()> {
     let mut bytes = [0u8; 16385];
     let length = put_log(&mut bytes, line.small(0)).min(16385);
     let log = &bytes[..length];
-    replay_text(out, log, header, tags, policies, counts, flows)?;
+    replay_log(out, log, book)?;
     out.write_all(b", text")?;
-    tally_text(out, log, header, tags, policies, counts, flows)
+    tally(out, log, book)
 }
 
 // Writes a log and answers its length: 513 flows; 16,384 bytes, and one more; 256 containers with no flow, and in a ring.
+// `kind` is the number that the script gives.
 fn put_log(log: &mut [u8], kind: u32) -> usize {
     match kind {
-        0 => put_alike(log),
-        1 => put_turns(log),
-        2 => put_turns(log).saturating_add(1),
+        0 => put_all(log, 2, (1..514).map(|k| enable(k, 0, 1))),
+        1 => put_all(log, 2, (0..4159).map(|i| turn(i))),
+        2 => put_all(log, 2, (0..4159).map(|i| turn(i))).saturating_add(1),
         3 => put_head(log, 256),
-        _ => put_ring(log),
+        _ => put_all(log, 256, (0..256).map(|c| link(c))),
     }
 }
 
-// Two containers, and the flows 1 to 513 from 0 to 1.
-fn put_alike(log: &mut [u8]) -> usize {
-    let mut at = put_head(log, 2);
-    for k in 1..514 {
-        at = put(log, at, enable(k, 0, 1));
+// The i-th event of the flows from 1 on from 0 to 1, each enabled and then disabled.
+fn turn(i: u32) -> Event {
+    let number = i / 2 + 1;
+    if i % 2 == 0 {
+        enable(number, 0, 1)
+    } else {
+        Event::Disable { number }
     }
-    at
 }
 
-// Two containers, and the flows 1 to 2080 from 0 to 1, each disabled but the last.
-fn put_turns(log: &mut [u8]) -> usize {
-    let mut at = put_head(log, 2);
-    for k in 1..2080 {
-        at = put(log, at, enable(k, 0, 1));
-        at = put(log, at, Event::Disable { number: k });
-    }
-    put(log, at, enable(2080, 0, 1))
+// The event that enables the flow from a container of 256 to the next, and from the last to the first.
+fn link(c: u32) -> Event {
+    let from = c % 256;
+    enable(from + 1, from, (from + 1) % 256)
 }
 
-// 256 containers, and a flow from each to the next, and from the last to the first.
-fn put_ring(log: &mut [u8]) -> usize {
-    let mut at = put_head(log, 256);
-    for k in 1..257 {
-        at = put(log, at, enable(k, k - 1, k % 256));
+// Writes n and these events, and answers the position after them.
+fn put_all<I: Iterator<Item = Event> + Drop>(log: &mut [u8], n: u32, events: I) -> usize
+    requires can { I.can_next events }
+    requires ends { IsFinite (I.remaining events) }
+{
+    let mut at = put_head(log, n);
+    for event in events {
+        at = put(log, at, event);
     }
     at
 }

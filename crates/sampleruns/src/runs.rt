@@ -1,11 +1,9 @@
 // Replays and texts in the script's tracker.
-use model::Flow;
 use report::Tallied;
 use samplecalls::asks::header_text;
 use samplecalls::book::Book;
 use sampleline::Line;
-use sampleline::print::{refused, written};
-use state::Header;
+use sampleline::print::{read, written};
 use std::io;
 use std::io::Write;
 
@@ -15,36 +13,16 @@ pub fn judge<W: Write>(out: &mut W, line: &Line, bytes: &[u8]) -> io::Result<()>
     let policies = line.get(1) as usize;
     let counts = line.get(2) as usize;
     let flows = line.get(3) as usize;
-    match replay::read_containers(bytes, tags, policies, counts, flows) {
-        Ok((n, next)) => write!(out, ": {n}, next {next}"),
-        Err(refusal) => refused(out, refusal),
-    }
+    read(
+        out,
+        replay::read_containers(bytes, tags, policies, counts, flows),
+    )
 }
 
 // `replay B..`: how the run ended, the events done, their gain and the header.
-pub fn replay_log<W: Write>(out: &mut W, bytes: &[u8], book: Book) -> io::Result<()> {
-    let Book {
-        header,
-        tags,
-        policies,
-        counts,
-        flows,
-    } = book;
-    replay_text(out, bytes, header, tags, policies, counts, flows)
-}
-
-// The same, on the lists one by one, so that another run can follow in them.
-pub fn replay_text<W: Write>(
-    out: &mut W,
-    bytes: &[u8],
-    header: &mut Header,
-    tags: &mut [u64],
-    policies: &mut [u64],
-    counts: &mut [u8],
-    flows: &mut [Flow],
-) -> io::Result<()> {
-    let run = replay::replay(bytes, tags, policies, counts, flows);
-    *header = run.header;
+pub fn replay_log<W: Write>(out: &mut W, bytes: &[u8], book: &mut Book) -> io::Result<()> {
+    let run = replay::replay(bytes, book.tags, book.policies, book.counts, book.flows);
+    *book.header = run.header;
     match run.stop {
         None => out.write_all(b": complete")?,
         Some(stop) => write!(out, ": refused {} at {}", stop.refusal, stop.byte)?,
@@ -54,30 +32,10 @@ pub fn replay_text<W: Write>(
 }
 
 // `tally B..`: the whole text, on lines of its own without its last newline, or only how long it is where that is above 512.
-pub fn tally<W: Write>(out: &mut W, bytes: &[u8], book: Book) -> io::Result<()> {
-    let Book {
-        header,
-        tags,
-        policies,
-        counts,
-        flows,
-    } = book;
-    tally_text(out, bytes, header, tags, policies, counts, flows)
-}
-
-// The same, on the lists one by one.
-pub fn tally_text<W: Write>(
-    out: &mut W,
-    bytes: &[u8],
-    header: &mut Header,
-    tags: &mut [u64],
-    policies: &mut [u64],
-    counts: &mut [u8],
-    flows: &mut [Flow],
-) -> io::Result<()> {
+pub fn tally<W: Write>(out: &mut W, bytes: &[u8], book: &mut Book) -> io::Result<()> {
     let mut text = [0u8; 264256];
-    let done = report::tally(bytes, tags, policies, counts, &mut text);
-    keep(&done, header, flows);
+    let done = report::tally(bytes, book.tags, book.policies, book.counts, &mut text);
+    keep(&done, book);
     out.write_all(b":")?;
     match done.reply {
         Ok(length) if 512 < length => write!(out, " {length} bytes of text"),
@@ -91,25 +49,18 @@ pub fn tally_text<W: Write>(
 }
 
 // `short L B..`: the text into L bytes of 7, at most 64, and what they have then.
-pub fn short<W: Write>(out: &mut W, line: &Line, bytes: &[u8], book: Book) -> io::Result<()> {
-    let Book {
-        header,
-        tags,
-        policies,
-        counts,
-        flows,
-    } = book;
+pub fn short<W: Write>(out: &mut W, line: &Line, bytes: &[u8], book: &mut Book) -> io::Result<()> {
     let n = (line.get(0) % 65) as usize;
     let mut text = [7u8; 64];
-    let done = report::tally(bytes, tags, policies, counts, &mut text[..n]);
-    keep(&done, header, flows);
+    let done = report::tally(bytes, book.tags, book.policies, book.counts, &mut text[..n]);
+    keep(&done, book);
     written(out, done.reply, &text[..n])
 }
 
 // Keeps the header and the flow table that a run of `tally` left: it has a table of its own.
-fn keep(done: &Tallied, header: &mut Header, flows: &mut [Flow]) {
-    *header = done.header;
-    for (place, flow) in flows.iter_mut().zip(done.flows.iter()) {
+fn keep(done: &Tallied, book: &mut Book) {
+    *book.header = done.header;
+    for (place, flow) in book.flows.iter_mut().zip(done.flows.iter()) {
         *place = *flow;
     }
 }

@@ -9,7 +9,6 @@ use sampleline::Line;
 use samplelog::{logs, numbers, sets};
 use sampleruns::{large, runs};
 use state::{Header, Tracker};
-use std::alloc::Global;
 use std::io;
 use std::io::{BufWriter, Read, Write};
 
@@ -17,69 +16,53 @@ fn main(rt: HostRuntime) -> io::Result<()> {
     let mut script = Vec::new(rt.alloc());
     let _ = rt.reader().take(32768).read_to_end(&mut script);
     let mut out = BufWriter::new(rt.alloc(), io::writer(&rt))?;
-    run(&mut out, rt.alloc(), &script)?;
+    run(&mut out, &script)?;
     out.flush()
 }
 
 // Each line in turn, from no tracker on.
-fn run<W: Write>(out: &mut W, alloc: Global, script: &[u8]) -> io::Result<()> {
+fn run<W: Write>(out: &mut W, script: &[u8]) -> io::Result<()> {
     let mut header = Header::NONE;
     let mut tags = [0u64; 1028];
     let mut policies = [0u64; 4112];
     let mut counts = [0u8; 257];
     let mut flows = [Flow::NONE; 600];
     let mut room = Room::ALL;
+    let mut book = Book {
+        header: &mut header,
+        tags: &mut tags,
+        policies: &mut policies,
+        counts: &mut counts,
+        flows: &mut flows,
+    };
     for text in script
         .strip_suffix(b"\n")
         .unwrap_or(script)
         .split(|byte| *byte == b'\n')
     {
         out.write_all(text)?;
-        let line = Line::of(alloc, text)?;
+        let line = Line::of(text);
         room = room_after(out, &line, room)?;
-        lend(
-            out,
-            alloc,
-            &line,
-            room,
-            &mut header,
-            &mut tags,
-            &mut policies,
-            &mut counts,
-            &mut flows,
-        )?;
+        lend(out, &line, room, &mut book)?;
         out.write_all(b"\n")?;
     }
     Ok(())
 }
 
 // Does what a line says with so much of each list; `flow` and `list` go by the whole flow table.
-fn lend<W: Write>(
-    out: &mut W,
-    alloc: Global,
-    line: &Line,
-    room: Room,
-    header: &mut Header,
-    tags: &mut [u64],
-    policies: &mut [u64],
-    counts: &mut [u8],
-    flows: &mut [Flow],
-) -> io::Result<()> {
+fn lend<W: Write>(out: &mut W, line: &Line, room: Room, whole: &mut Book) -> io::Result<()> {
     match line.word {
-        b"flow" => {
-            pokes::put(flows, line.get(0), flow_of(line.from(1)));
-            Ok(())
-        }
-        b"list" => asks::list(out, *header, flows),
+        b"flow" => Ok(pokes::put(whole.flows, line.get(0), flow_of(line.from(1)))),
+        b"list" => asks::list(out, *whole.header, whole.flows),
         _ => {
-            let book = Book {
-                header,
-                tags: front(tags, room.tags),
-                policies: front(policies, room.policies),
-                counts: front(counts, room.counts),
-                flows: front(flows, room.flows),
+            let mut book = Book {
+                header: &mut *whole.header,
+                tags: front(whole.tags, room.tags),
+                policies: front(whole.policies, room.policies),
+                counts: front(whole.counts, room.counts),
+                flows: front(whole.flows, room.flows),
             };
-            step(out, alloc, line, book)
+            step(out, line, &mut book)
         }
     }
 }
@@ -109,8 +92,8 @@ fn room_after<W: Write>(out: &mut W, line: &Line, room: Room) -> io::Result<Room
 }
 
 // Does what a line says, if it has numbers enough.
-fn step<W: Write>(out: &mut W, alloc: Global, line: &Line, book: Book) -> io::Result<()> {
-    match line.bytes(alloc, first_byte(line.word))? {
+fn step<W: Write>(out: &mut W, line: &Line, book: &mut Book) -> io::Result<()> {
+    match line.bytes(first_byte(line.word)) {
         Some(bytes) => change(out, line, &bytes, book),
         None => out.write_all(b": too few numbers"),
     }
@@ -128,7 +111,7 @@ fn first_byte(word: &[u8]) -> usize {
 }
 
 // Does what a line says. The words that change the tracker, or write past the calls.
-fn change<W: Write>(out: &mut W, line: &Line, bytes: &[u8], book: Book) -> io::Result<()> {
+fn change<W: Write>(out: &mut W, line: &Line, bytes: &[u8], book: &mut Book) -> io::Result<()> {
     match line.word {
         b"start" => changes::start(out, line, book),
         b"enable" => changes::enable(out, line, book),
