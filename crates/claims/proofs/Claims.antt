@@ -19,7 +19,7 @@
 --     what-disable-does, what-add-policy-does, what-replay-does,
 --     what-tally-writes, what-tally-leaves; that these speak of the contracts: start-contract, enable-contract,
 --     disable-contract, add-policy-contract, tags-of-contract, size-of-contract, is-legal-contract, rank-contract,
---     replay-contract, tally-contract
+--     replay-contract, tally-contract, text-contract
 --   after a list of calls no state is refused: no-call-answers-9-or-12, every-question-is-answered, no-other-container-is-told,
 --     the-ranking-is-written; of calls that run: called-answers-no-9-or-12, called-every-question-is-answered, called-no-other-container-is-told,
 --     called-the-ranking-is-written
@@ -285,13 +285,13 @@
 -- 'The builders agree that every public call has a stated outcome, and that for each input it determines the answer
 --   and each byte and word lent, on refusal too': the contracts of `start`, `enable`, `disable`, `add_policy`
 --   (calls/src/lib.rt), `tags_of`, `size_of`, `is_legal` (question/src/lib.rt), `rank` (ranking/src/lib.rt), `replay`
---   (replay/src/lib.rt), `tally` (report/src/lib.rt); the-numbers-tell-replies-apart, the-numbers-tell-answers-apart;
---   of the log `read_record`, `write_record`, `read_head`, `write_head` (eventlog/src/lib.rt),
+--   (replay/src/lib.rt), `tally`, `text` (report/src/lib.rt); the-numbers-tell-replies-apart,
+--   the-numbers-tell-answers-apart; of the log `read_record`, `write_record`, `read_head`, `write_head` (eventlog/src/lib.rt),
 --   `record-reading-injective` (eventlog/specs/Laws.antt), `reading-injective` (leb128/specs/Laws.antt)
 -- 'The call's contract gives each result as equal to a definition; should these papers leave an answer free, it is
 --   named there, with what holds of it': the same contracts, which leave none free: start-contract, enable-contract,
 --   disable-contract, add-policy-contract, tags-of-contract, size-of-contract, is-legal-contract, rank-contract,
---   replay-contract, tally-contract; what follows of the call that runs: what-start-does, what-enable-does,
+--   replay-contract, tally-contract, text-contract; what follows of the call that runs: what-start-does, what-enable-does,
 --   what-disable-does, what-add-policy-does, what-replay-does, what-tally-writes, what-tally-leaves
 -- 'The lab will hold up against it: a book that calls every book unsound (demand 1, by the table)': state-is-judged,
 --   enable-answers-by-the-table, no-call-answers-9-or-12

@@ -13,11 +13,13 @@ use contract.Monad.{Fun, fact}
 use contract.Lifetimes.{Lfts}
 use denote.Triple.Entry.{Args, Res}
 use denote.Triple.Clauses.{Ended, AtExit, Clauses}
+use Rattle.leb128.specs.Answer.{writing_of}
 use Rattle.model.specs.declared.Flow.{Flow}
 use Rattle.model.specs.Model.{enable, disable}
 use Rattle.state.specs.declared.Header.{Header}
 use Rattle.state.specs.State.{Storage, State, storage_of, state_of, state_in}
 use Rattle.outcome.specs.Outcome.{ask, add, outcome_of}
+use Rattle.tallytext.specs.Text.{new_storage, tally_of}
 use Rattle.claims.specs.Running.{StartGave, CallGave, TagsGave, SizeGave, LegalGave, RankGave, RankWrote, ReplayGave, with_new_table, TallyAnswered, TallyWrote, TallyLeft}
 use Rattle.calls.specs.contracts.start as start-it
 use Rattle.calls.specs.contracts.enable as enable-it
@@ -29,6 +31,7 @@ use Rattle.question.specs.contracts.is_legal as legal-it
 use Rattle.ranking.specs.contracts.rank as rank-it
 use Rattle.replay.specs.contracts.replay as replay-it
 use Rattle.report.specs.contracts.tally as tally-it
+use Rattle.report.specs.contracts.text as text-it
 
 -- the lent lists, and the state of a header and these
 abbrev pub lists : List ℕ → List ℕ → List ℕ → List Flow → Storage
@@ -103,3 +106,9 @@ module _ {M : Type 1} {𝓤 : Ura M} (𝓛 : Logic 𝓤) (mem : Memory → SProp
       (sep 𝓤 (fact 𝓤 (TallyWrote bytes.now lent out.now out'.now))
       (fact 𝓤 (TallyLeft bytes.now lent r tags'.now policies'.now counts'.now))))
   tally-contract = refl
+
+  pub text-contract : text-it.clauses 𝓛 mem run ≡ Ensures 𝓤 text-it.ended
+      (λ κs (bytes, (out, _)) r (_, (out', _)).
+      sep 𝓤 (fact 𝓤 (writing_of r ≡ (tally_of bytes.now new_storage out.now).answer))
+      (fact 𝓤 (TallyWrote bytes.now new_storage out.now out'.now)))
+  text-contract = refl

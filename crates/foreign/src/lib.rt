@@ -30,6 +30,8 @@ use state::{Header, Tracker};
 use tagset::TagSet;
 use tracker::{Accepted, Replayed};
 
+// One record for each answer: a record of C has no type parameter.
+
 // What an event, a start or adding a policy set answers: the refusal's number or 0, the gain, the header.
 #[repr(C)]
 #[derive(Clone, Copy)]
@@ -337,17 +339,12 @@ pub fn log_disable_len(number: u32) -> usize
     eventlog::record_len(Event::Disable { number })
 }
 
-// `report::tally` in a new tracker: the text that the program `tally` prints for these bytes.
+// `report::text`: the text that the program `tally` prints for these bytes.
 pub fn tally_text(bytes: &[u8], out: &mut [u8]) -> WriteAnswer
     ensures answer { writing_in result ≡ (tally_of bytes.now new_storage out.old).answer }
     ensures output { out.new ≡ (tally_of bytes.now new_storage out.old).output }
 {
-    let mut tags = [0u64; 1024];
-    let mut policies = [0u64; 4096];
-    let mut counts = [0u8; 256];
-    report::tally(bytes, &mut tags, &mut policies, &mut counts, out)
-        .reply
-        .into()
+    report::text(bytes, out).into()
 }
 
 // The event that enables this flow.

@@ -1,7 +1,8 @@
 // The text of `tally`: an input run in lent lists and a flow table of its own, and its report in a lent output.
 // What the text is stands in tallytext/specs/Text.antt.
 // The methods of `Sheet` take positions up to some millions, far past the end of every text (264,256 bytes): so no sum of
-// a position wraps. They are no `write!`: its contract says nothing of an `Err`, and so not when a text does not fit.
+// a position wraps. Each method has a bound of its own, since it moves the position on, so these are no invariant of the
+// type. They are no `write!`: its contract says nothing of an `Err`, and so not when a text does not fit.
 #![tactic(auto)]
 
 ghost use Rattle.std.specs.Prelude.{◌≡◌, [], ◌∷◌, ◌++◌, ◌*◌, ◌≤◌, ◌<◌, length, replicate};
@@ -9,7 +10,7 @@ ghost use Rattle.leb128.specs.Answer.{writing_of};
 ghost use Rattle.leb128.specs.Number.{write_at};
 ghost use Rattle.decimal.specs.Decimal.{decimal_of};
 ghost use Rattle.state.specs.State.{storage_of, state_of, no_flow};
-ghost use Rattle.tallytext.specs.Text.{space, newline, spaced, tags_rising, line_of, lines_of, left_of, tally_of};
+ghost use Rattle.tallytext.specs.Text.{space, newline, spaced, tags_rising, line_of, lines_of, left_of, new_storage, tally_of};
 ghost use Rattle.tallytext.specs.Replies.{last_line_in, report_in};
 ghost use Rattle.report.specs.Sheet.{Puts, Listed};
 
@@ -26,6 +27,17 @@ pub struct Tallied {
     pub reply: Result<usize, Refusal>,
     pub header: Header,
     pub flows: [Flow; 512],
+}
+
+// Runs an input in a new tracker, and writes its text at the start of the output, or no byte where it does not fit.
+pub fn text(bytes: &[u8], out: &mut [u8]) -> Result<usize, Refusal>
+    ensures answer { writing_of result ≡ (tally_of bytes.now new_storage out.old).answer }
+    ensures output { out.new ≡ (tally_of bytes.now new_storage out.old).output }
+{
+    let mut tags = [0u64; 1024];
+    let mut policies = [0u64; 4096];
+    let mut counts = [0u8; 256];
+    tally(bytes, &mut tags, &mut policies, &mut counts, out).reply
 }
 
 // Runs an input in these lists and a new flow table, and writes its text at the start of the output, or no byte where it

@@ -2,8 +2,8 @@
 // read that fails, and a line on standard error says what failed.
 //
 // Of a reader whose bytes are known the contracts say which it gave; which bytes a file or standard input brings and a
-// write takes no contract can say. What writes answers Ok only where all of it came, and else a beginning, perhaps
-// nothing, came.
+// write takes no contract can say. A function `try_..` writes what the one without `try_` does, and answers Ok only where
+// all of it came; where it answers Err, or nothing is answered, a beginning, perhaps nothing, may be all that came.
 #![tactic(auto)]
 
 ghost use Rattle.std.specs.Prelude.{◌≡◌, ◌↔◌, map, length, IsTrue, OnOk};
@@ -17,6 +17,7 @@ use std::io::{ErrorKind, Read, Write};
 // Reads until the input ends, `buf` is full or a read fails, and answers how many bytes came. These stand at the start
 // of `buf`: where they don't fill it the end was seen, and where they do, more may come. A short read is followed by
 // another. An interrupted one is tried again, 2^64 - 1 times in all, since a proved loop has to end.
+// No `read_to_end` of std: it needs a Vec, and there is no heap, by the project's rule.
 pub fn read_to_end<R: Read>(reader: &mut R, buf: &mut [u8]) -> io::Result<usize>
     ensures within { Within result (length buf.new) }
     ensures came { Came (R.remaining reader.old) (R.remaining reader.new) result buf.new }
@@ -42,9 +43,18 @@ fn is_interrupted(error: &io::Error) -> bool
 }
 
 // Writes all of `text` to `out`, the last that a program prints, since its end closes standard output. If a write
-// fails, a line on `errors` has `what` and the reason. It answers Ok where either is there whole.
+// fails, a line on `errors` has `what` and the reason.
 // The two writers are no struct: where nothing is to print a line is told to `errors` alone.
-pub fn print_and_close<W: Write, E: Write>(
+pub fn print_and_close<W: Write, E: Write>(out: &mut W, errors: &mut E, text: &[u8], what: &[u8])
+    ensures { Prints Says (W.contents out.old) (W.contents out.new)
+        (E.contents errors.old) (E.contents errors.new) text.now what.now }
+{
+    // Where the line fails too, nobody can be told.
+    let _ = try_print(out, errors, text, what);
+}
+
+// As `print_and_close`, and answers Ok where the text or the line is there whole.
+pub fn try_print<W: Write, E: Write>(
     out: &mut W,
     errors: &mut E,
     text: &[u8],
@@ -58,12 +68,13 @@ pub fn print_and_close<W: Write, E: Write>(
     // No `or_else`: nothing is known of what its closure leaves in `errors`.
     match write_whole(out, text) {
         Ok(()) => Ok(()),
-        Err(error) => fail(errors, what, error),
+        Err(error) => try_fail(errors, what, error),
     }
 }
 
 // Writes all of `text`, and hands on what the writer kept back. A short write is followed by another, and an
 // interrupted one is tried again, as a read is.
+// No `write_all` of std: where it fails it promises nothing of what came.
 fn write_whole<W: Write>(out: &mut W, text: &[u8]) -> io::Result<()>
     ensures begins { Begins (W.contents out.old) (W.contents out.new) text.now }
     ensures whole { OnOk result (Appends (W.contents out.old) (W.contents out.new) text.now) }
@@ -82,7 +93,15 @@ fn write_whole<W: Write>(out: &mut W, text: &[u8]) -> io::Result<()>
 }
 
 // Writes a line to `errors`: what failed, as the caller names it, a colon and the system's text for the reason.
-pub fn fail<E: Write>(errors: &mut E, what: &[u8], error: io::Error) -> io::Result<()>
+pub fn fail<E: Write>(errors: &mut E, what: &[u8], error: io::Error)
+    ensures { Says (E.contents errors.old) (E.contents errors.new) what.now }
+{
+    // Where the line fails, nobody can be told.
+    let _ = try_fail(errors, what, error);
+}
+
+// As `fail`, and answers Ok where the line is there whole.
+pub fn try_fail<E: Write>(errors: &mut E, what: &[u8], error: io::Error) -> io::Result<()>
     ensures begins { Says (E.contents errors.old) (E.contents errors.new) what.now }
     ensures whole { OnOk result (Tells (E.contents errors.old) (E.contents errors.new) what.now) }
 {
@@ -90,7 +109,7 @@ pub fn fail<E: Write>(errors: &mut E, what: &[u8], error: io::Error) -> io::Resu
     let _ = write!(text, "{error}");
     let n = (text.position() as usize).min(320);
     let reason = std::str::from_utf8(&text.get_ref()[..n]).unwrap_or("");
-    say(errors, what, without_number(reason).as_bytes())
+    try_say(errors, what, without_number(reason).as_bytes())
 }
 
 // The text of an error without its number, which `Display` puts behind it.
@@ -99,8 +118,16 @@ fn without_number(text: &str) -> &str {
         .map_or(text, |(reason, _)| reason)
 }
 
-// Writes the line that has `what` and `reason`. Where it answers Err, nobody can be told.
-pub fn say<E: Write>(errors: &mut E, what: &[u8], reason: &[u8]) -> io::Result<()>
+// Writes the line that has `what` and `reason`.
+pub fn say<E: Write>(errors: &mut E, what: &[u8], reason: &[u8])
+    ensures { Begins (E.contents errors.old) (E.contents errors.new) (line_of what.now reason.now) }
+{
+    // Where the line fails, nobody can be told.
+    let _ = try_say(errors, what, reason);
+}
+
+// As `say`, and answers Ok where the line is there whole.
+pub fn try_say<E: Write>(errors: &mut E, what: &[u8], reason: &[u8]) -> io::Result<()>
     ensures begins { Begins (E.contents errors.old) (E.contents errors.new) (line_of what.now reason.now) }
     ensures whole { OnOk result
         (Appends (E.contents errors.old) (E.contents errors.new) (line_of what.now reason.now)) }
@@ -173,7 +200,7 @@ mod tests {
     #[test]
     fn a_line_has_the_text_of_the_system_without_its_number(rt: HostRuntime) -> Result<(), Fail> {
         let mut errors = Vec::new(rt.alloc());
-        fail(&mut errors, b"tally: log", io::Error::from_raw_os_error(2))?;
+        fail(&mut errors, b"tally: log", io::Error::from_raw_os_error(2));
         assert_eq!(rt;
             errors.as_slice(),
             b"tally: log: No such file or directory\n".as_slice()
@@ -186,7 +213,7 @@ mod tests {
         let mut room = [0u8; 3];
         let mut out = io::Cursor::new(&mut room[..]);
         let mut errors = Vec::new(rt.alloc());
-        print_and_close(&mut out, &mut errors, b"text", b"tally: output")?;
+        print_and_close(&mut out, &mut errors, b"text", b"tally: output");
         assert_eq!(rt;
             errors.as_slice(),
             b"tally: output: No byte was taken\n".as_slice()

@@ -40,7 +40,7 @@ fn answer<P: Env + Files, R: Read, W: Write, E: Write>(
         },
         Err(FillError::NotPresent) => show(reader, out, errors, b"tally: standard input"),
         Err(FillError::TooLong) => {
-            stream::say(errors, b"tally: the argument", b"File name too long")
+            stream::try_say(errors, b"tally: the argument", b"File name too long")
         }
     }
 }
@@ -70,7 +70,7 @@ fn asked_by(word: &[u8]) -> Asked
 }
 
 fn print_help<W: Write, E: Write>(out: &mut W, errors: &mut E) -> io::Result<()> {
-    stream::print_and_close(
+    stream::try_print(
         out,
         errors,
         b"usage: tally [FILE]
@@ -115,7 +115,7 @@ fn show_file<P: Files, W: Write, E: Write>(
     stream::one_line(line);
     match opened {
         Ok(mut file) => show(&mut file, out, errors, line),
-        Err(error) => stream::fail(errors, line, error),
+        Err(error) => stream::try_fail(errors, line, error),
     }
 }
 
@@ -144,9 +144,9 @@ fn show<R: Read, W: Write, E: Write>(
     match stream::read_to_end(reader, &mut input) {
         Ok(n) => {
             let length = report_of(&input[..n], &mut text);
-            stream::print_and_close(out, errors, &text[..length], b"tally: standard output")
+            stream::try_print(out, errors, &text[..length], b"tally: standard output")
         }
-        Err(error) => stream::fail(errors, name, error),
+        Err(error) => stream::try_fail(errors, name, error),
     }
 }
 
@@ -157,12 +157,5 @@ fn report_of(bytes: &[u8], text: &mut [u8]) -> usize
     ensures prefix_len { IsPrefixLen result text.new }
     ensures text_after { take result text.new ≡ printed_of bytes.now }
 {
-    let mut tags = [0u64; 1024];
-    let mut policies = [0u64; 4096];
-    let mut counts = [0u8; 256];
-    let made = report::tally(bytes, &mut tags, &mut policies, &mut counts, text);
-    match made.reply {
-        Ok(length) => length,
-        Err(_) => 0,
-    }
+    report::text(bytes, text).unwrap_or(0)
 }

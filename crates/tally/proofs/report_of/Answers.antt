@@ -1,6 +1,7 @@
 -- The text is at the start of the output, which it always fits. Assumes nothing.
-use Rattle.std.proofs.Common.{◌≡◌, ℕ, ◌≤◌, List, length, sym, ap, ◌∙◌, arith, length-take-le}
-use Rattle.std.specs.Prelude.{Result, Ok}
+use Rattle.std.proofs.Common.{◌≡◌, ◌≢◌, refl, ℕ, ◌≤◌, List, length, sym, ap, ◌∙◌, arith, length-take-le}
+use Rattle.std.specs.Prelude.{Result, Ok, Err}
+use Rattle.std.specs.Result.{result_unwrap_or}
 use Rattle.refusal.specs.declared.Refusal.{Refusal}
 use Rattle.leb128.specs.Answer.{Writing, writing_of}
 use Rattle.leb128.specs.Number.{write_at, Written}
@@ -9,6 +10,7 @@ use Rattle.io.specs.Counts.{IsPrefixLen}
 use Rattle.tallytext.specs.Text.{new_storage}
 use Rattle.tallytext.proofs.Laws.{tally-prints, tally-not-short}
 use Rattle.tally.proofs.report_of.Goals as goal
+use Rattle.tally.proofs.report_of.Goals.{After-unwrap_or}
 
 -- the position after what was written at the start of an output
 within : (out bs : List ℕ) {r : Result ℕ Refusal} (p : ℕ) → writing_of r ≡ (write_at out 0 bs).answer → r ≡ Ok p → p ≤ length out
@@ -24,14 +26,22 @@ counts : (out bs : List ℕ) {r : Result ℕ Refusal} {left : List ℕ} (p : ℕ
 counts out bs {left = left} p e o n =
     let l : p ≤ length left = omega (arith, within out bs p e n, ap length o ∙ write-length out 0 bs) in (l, sym (length-take-le p left l))
 
-pub returns-in-Ok-clause-prefix_len : goal.returns-in-Ok-clause-prefix_len
-returns-in-Ok-clause-prefix_len c = counts _ _ c.in-Ok.length c.tally-made.ensures.answer c.tally-made.ensures.output c.in-Ok.is
+-- an answer that is no Err
+found : (r : Result ℕ Refusal) → ((k : Refusal) → r ≢ Err k) → r ≡ Ok (result_unwrap_or r 0)
+found (Ok p) never = refl
+found (Err k) never = absurd (never k refl)
 
-pub returns-in-Ok-clause-text_after : goal.returns-in-Ok-clause-text_after
-returns-in-Ok-clause-text_after c =
-    tally-prints c.args.bytes.now new_storage c.args.text.now (λ k. (c.type_inv.bytes k).fits) (omega arith) c.tally-made.ensures.answer c.tally-made.ensures.output
-    c.in-Ok.length c.in-Ok.is
+module _ (c : After-unwrap_or) where
+  is-length : c.text.result ≡ Ok c.unwrap_or.result
+  is-length =
+      found c.text.result
+      (tally-not-short c.args.bytes.now new_storage c.args.text.now (λ k. (c.type_inv.bytes k).fits) (omega arith) c.text.ensures.answer)
+      ∙ ap Ok (sym c.unwrap_or.ensures)
 
-pub returns-in-Err-clause-text_after : goal.returns-in-Err-clause-text_after
-returns-in-Err-clause-text_after c =
-    absurd (tally-not-short c.args.bytes.now new_storage c.args.text.now (λ k. (c.type_inv.bytes k).fits) (omega arith) c.tally-made.ensures.answer c.in-Err.field-0 c.in-Err.is)
+pub returns-clause-prefix_len : goal.returns-clause-prefix_len
+returns-clause-prefix_len c = counts _ _ c.unwrap_or.result c.text.ensures.answer c.text.ensures.output (is-length c)
+
+pub returns-clause-text_after : goal.returns-clause-text_after
+returns-clause-text_after c =
+    tally-prints c.args.bytes.now new_storage c.args.text.now (λ k. (c.type_inv.bytes k).fits) (omega arith) c.text.ensures.answer c.text.ensures.output
+    c.unwrap_or.result (is-length c)

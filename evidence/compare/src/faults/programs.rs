@@ -92,7 +92,7 @@ fn main(rt: HostRuntime) {",
 ];
 
 /// A file that cannot be opened ends the run without a line.
-const UNTOLD: &[(&str, &str)] = &[("Err(error) => stream::fail(errors, line, error),", "Err(_) => Ok(()),")];
+const UNTOLD: &[(&str, &str)] = &[("Err(error) => stream::try_fail(errors, line, error),", "Err(_) => Ok(()),")];
 
 /// All wrong programs; the gate tries the first two, since each takes the time of a proof.
 pub fn edits() -> Vec<Edit> {

@@ -1,7 +1,7 @@
 -- Part by part: where a part fails, a beginning of it stands after the parts before it. Assumes nothing.
 use Rattle.std.proofs.KnownBytes.{Appends-trans}
 use Rattle.stream.proofs.Writing.{Begins-part, Begins-after}
-use Rattle.stream.proofs.say.Goals as goal
+use Rattle.stream.proofs.try_say.Goals as goal
 
 pub returns-in_err-write_whole-2-clause-begins : goal.returns-in_err-write_whole-2-clause-begins
 returns-in_err-write_whole-2-clause-begins g c =
