@@ -1,7 +1,9 @@
 -- Laws of what starting writes: a value in front one element a turn, own tags one set a turn. Assumes nothing.
-use Rattle.std.specs.Prelude.{◌≡◌, refl, List, [], ◌∷◌, ◌++◌, ℕ, zero, suc, ◌+◌, ◌*◌, ◌/◌, ◌≤◌, ◌<◌, min, length, set, drop, replicate}
-use Rattle.std.proofs.Common.{sym, ap, ◌∙◌, arith, add-one, not-suc-le-zero, le_of_suc-le-suc, length-set}
-use Rattle.std.proofs.lemmas.List.{drop_min}
+use Rattle.std.specs.Prelude.{◌≡◌, refl, List, [], ◌∷◌, ◌++◌, ℕ, zero, suc, ◌+◌, ◌*◌, ◌/◌, ◌≤◌, ◌<◌, min, length, set, take, drop, replicate}
+use Rattle.std.proofs.Common.{sym, ap, ◌∙◌, arith, add-one, not-suc-le-zero, le_of_suc-le-suc, length-set, ap₂, append-nil}
+use Rattle.std.proofs.Math.ListN.{drop_of_length-le}
+use Rattle.std.proofs.Math.Nat.{min-le_right}
+use Rattle.std.proofs.lemmas.List.{drop_min, length-take-le}
 use Rattle.tagset.specs.Set.{single_of}
 use Rattle.state.specs.State.{with_sets}
 use Rattle.tagstore.specs.Store.{filled_front}
@@ -23,27 +25,36 @@ front_more v i [] h = absurd (not-suc-le-zero h)
 front_more v zero (x ∷ l) h = refl
 front_more {A} v (suc i) (x ∷ l) h = ap (λ (k : List A). v ∷ k) (front_more v i l (le_of_suc-le-suc h))
 
--- the list l after i turns of a loop that writes v over the first m elements
-pub record Filled {A : Type 0} (v : A) (start : List A) (m : ℕ) (l : List A) (i : ℕ) : Type 0 where
-  pub below : i ≤ m
+-- the list l after i turns of a loop that writes v over each of its elements
+pub record Filled {A : Type 0} (v : A) (start l : List A) (i : ℕ) : Type 0 where
   pub inside : i ≤ length start
   pub long : length l ≡ length start
   pub front : l ≡ replicate i v ++ drop i start
 
-module _ {A : Type 0} {v : A} {start : List A} {m : ℕ} {l : List A} {i : ℕ} (h : Filled v start m l i) where
+module _ {A : Type 0} {v : A} {l : List A} {i : ℕ} where
   -- one turn more
-  pub filled_more : i < m → i < length l → Filled v start m (set l i v) (i + 1)
-  filled_more p q =
+  pub filled_more : {start : List A} → Filled v start l i → i < length l → Filled v start (set l i v) (i + 1)
+  filled_more {start} h q =
       record {
-        below = omega (arith, p);
         inside = omega (arith, q, h.long);
         long = length-set l i v ∙ h.long;
         front = rw (h.front, add-one) (front_more v i start (omega (arith, q, h.long)));
       }
 
-  -- no turn is left
-  pub filled-all : i ≡ min m (length start) → l ≡ filled_front v m start
-  filled-all e = h.front ∙ filled-done v i m start e
+  -- no turn is left of those over the first m elements of a list, or over all where there are fewer
+  pub filled-all : (m : ℕ) (whole : List A) → Filled v (take (min m (length whole)) whole) l i → i ≡ length l
+      → l ++ drop (min m (length whole)) whole ≡ filled_front v m whole
+  filled-all m whole h e =
+      ap (λ (x : List A). x ++ drop k whole)
+      (h.front ∙ ap₂ (λ (n : ℕ) (x : List A). replicate n v ++ x) end (drop_of_length-le (take k whole) (omega (arith, e, h.long)))
+      ∙ append-nil (replicate k v))
+      ∙ filled-done v k m whole refl
+    where
+      k : ℕ
+      k = min m (length whole)
+
+      end : i ≡ k
+      end = e ∙ h.long ∙ length-take-le k whole (min-le_right m (length whole))
 
 -- SETS
 

@@ -48,7 +48,8 @@ pub fn store_own_tags(words: &mut [u64], n: u32)
 pub fn clear<T: Copy>(list: &mut [T], m: usize, zero: T)
     ensures { list.new ≡ filled_front zero m list.old }
 {
-    for i in 0..m.min(list.len()) {
-        list[i] = zero;
+    let end = m.min(list.len());
+    for place in list[..end].iter_mut() {
+        *place = zero;
     }
 }
