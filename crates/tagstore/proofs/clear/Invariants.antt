@@ -4,4 +4,4 @@ use Rattle.tagstore.specs.Starting.{Filled}
 use Rattle.tagstore.proofs.clear.Given as goal
 
 abbrev pub invariant-loop-place : goal.invariant-loop-place
-invariant-loop-place g l = Filled l.fn.zero l.initial.place-items l.place-items l.place-index
+invariant-loop-place g l = Filled l.fn.zero l.initial.place-items l.fn.m l.place-items l.place-index
