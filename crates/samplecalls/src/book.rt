@@ -58,3 +58,9 @@ impl Book<'_> {
         }
     }
 }
+
+// The first n of a list, or all.
+pub fn front<T>(list: &mut [T], n: usize) -> &mut [T] {
+    let end = n.min(list.len());
+    &mut list[..end]
+}

@@ -3,17 +3,29 @@ ghost use Rattle.std.specs.Iterator.{IsFinite};
 
 use crate::runs::{replay_log, tally};
 use eventlog::Event;
-use samplecalls::book::Book;
+use samplecalls::book::{Book, front};
 use sampleline::Line;
 use std::io;
 use std::io::Write;
 
-// `large K`: the K-th of the logs below, replayed, and its text.
-pub fn large<W: Write>(out: &mut W, line: &Line, book: &mut Book) -> io::Result<()> {
+// `large K`: the K-th of the logs below, replayed in so many records, and its text.
+pub fn large<W: Write>(
+    out: &mut W,
+    line: &Line,
+    records: usize,
+    book: &mut Book,
+) -> io::Result<()> {
     let mut bytes = [0u8; 16385];
     let length = put_log(&mut bytes, line.small(0)).min(16385);
     let log = &bytes[..length];
-    replay_log(out, log, book)?;
+    let mut part = Book {
+        header: &mut *book.header,
+        tags: &mut *book.tags,
+        policies: &mut *book.policies,
+        counts: &mut *book.counts,
+        flows: front(book.flows, records),
+    };
+    replay_log(out, log, &mut part)?;
     out.write_all(b", text")?;
     tally(out, log, book)
 }

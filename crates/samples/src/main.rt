@@ -2,7 +2,7 @@
 #![tactic(auto)]
 
 use model::Flow;
-use samplecalls::book::{Book, Room};
+use samplecalls::book::{Book, Room, front};
 use samplecalls::changes::flow_of;
 use samplecalls::{asks, changes, pokes};
 use sampleline::Line;
@@ -35,6 +35,9 @@ fn run<W: Write>(out: &mut W, script: &[u8]) -> io::Result<()> {
         counts: &mut counts,
         flows: &mut flows,
     };
+    if script.is_empty() {
+        return Ok(());
+    }
     for text in script
         .strip_suffix(b"\n")
         .unwrap_or(script)
@@ -49,28 +52,27 @@ fn run<W: Write>(out: &mut W, script: &[u8]) -> io::Result<()> {
     Ok(())
 }
 
-// Does what a line says with so much of each list; `flow` and `list` go by the whole flow table.
+// Does what a line says with so much of each list. `flow`, `list` and what the runs of `tally` leave go by 512 records of
+// the flow table, however many are lent.
 fn lend<W: Write>(out: &mut W, line: &Line, room: Room, whole: &mut Book) -> io::Result<()> {
     match line.word {
-        b"flow" => Ok(pokes::put(whole.flows, line.get(0), flow_of(line.from(1)))),
-        b"list" => asks::list(out, *whole.header, whole.flows),
+        b"flow" => Ok(pokes::put(front(whole.flows, 512), line.get(0), flow_of(line.from(1)))),
+        b"list" => asks::list(out, *whole.header, front(whole.flows, 512)),
         _ => {
+            let records = match line.word {
+                b"tally" | b"short" | b"large" => 512,
+                _ => room.flows,
+            };
             let mut book = Book {
                 header: &mut *whole.header,
                 tags: front(whole.tags, room.tags),
                 policies: front(whole.policies, room.policies),
                 counts: front(whole.counts, room.counts),
-                flows: front(whole.flows, room.flows),
+                flows: front(whole.flows, records),
             };
-            step(out, line, &mut book)
+            step(out, line, room.flows, &mut book)
         }
     }
-}
-
-// The first n of a list, or all.
-fn front<T>(list: &mut [T], n: usize) -> &mut [T] {
-    let end = n.min(list.len());
-    &mut list[..end]
 }
 
 // `room T P C F`: from now on so many words of tags, words of policy sets, counts and records of the flow table are lent. There are 600 records; those past
@@ -91,8 +93,11 @@ fn room_after<W: Write>(out: &mut W, line: &Line, room: Room) -> io::Result<Room
     Ok(asked.unwrap_or(room))
 }
 
-// Does what a line says, if it has numbers enough.
-fn step<W: Write>(out: &mut W, line: &Line, book: &mut Book) -> io::Result<()> {
+// Does what a line says, if it has numbers enough. `large` replays in so many records.
+fn step<W: Write>(out: &mut W, line: &Line, records: usize, book: &mut Book) -> io::Result<()> {
+    if line.word == b"large".as_slice() {
+        return large::large(out, line, records, book);
+    }
     match line.bytes(first_byte(line.word)) {
         Some(bytes) => change(out, line, &bytes, book),
         None => out.write_all(b": too few numbers"),
@@ -127,7 +132,6 @@ fn change<W: Write>(out: &mut W, line: &Line, bytes: &[u8], book: &mut Book) -> 
         b"lent" => samplelent::lent(out, line, bytes, book),
         b"tally" => runs::tally(out, bytes, book),
         b"short" => runs::short(out, line, bytes, book),
-        b"large" => large::large(out, line, book),
         _ => ask(out, line, bytes, &book.seen()),
     }
 }
