@@ -1,4 +1,7 @@
 // What the script's lines work on: a header, and the part of each list that is lent.
+ghost use Rattle.std.specs.Prelude.{◌≡◌, ◌||◌, ltb, take, is_none, IfSome};
+ghost use Rattle.state.specs.State.{state_in, storage_of};
+
 use model::Flow;
 use state::{Header, Tracker};
 
@@ -21,7 +24,13 @@ impl Room {
     };
 
     // So much of each list, if there is so much.
-    pub fn of(tags: usize, policies: usize, counts: usize, flows: usize) -> Option<Room> {
+    pub fn of(tags: usize, policies: usize, counts: usize, flows: usize) -> Option<Room>
+        ensures tags { IfSome result (λ r. r.tags ≡ tags) }
+        ensures policies { IfSome result (λ r. r.policies ≡ policies) }
+        ensures counts { IfSome result (λ r. r.counts ≡ counts) }
+        ensures flows { IfSome result (λ r. r.flows ≡ flows) }
+        ensures none { is_none result ≡ (ltb 1028 tags || ltb 4112 policies || ltb 257 counts || ltb 600 flows) }
+    {
         if 1028 < tags || 4112 < policies || 257 < counts || 600 < flows {
             return None;
         }
@@ -48,7 +57,11 @@ pub struct Book<'a> {
 
 impl Book<'_> {
     // What a question is asked of.
-    pub fn seen(&self) -> Tracker<'_> {
+    pub fn seen(&self) -> Tracker<'_>
+        ensures header { (state_in result).header ≡ self.now.header.now }
+        ensures storage { (state_in result).storage
+            ≡ storage_of self.now.tags.now self.now.policies.now self.now.counts.now self.now.flows.now }
+    {
         Tracker {
             header: *self.header,
             tags: self.tags,
@@ -60,7 +73,9 @@ impl Book<'_> {
 }
 
 // The first n of a list, or all.
-pub fn front<T>(list: &mut [T], n: usize) -> &mut [T] {
+pub fn front<T>(list: &mut [T], n: usize) -> &mut [T]
+    ensures { result.now ≡ take n list.old }
+{
     let end = n.min(list.len());
     &mut list[..end]
 }

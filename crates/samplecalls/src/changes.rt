@@ -1,4 +1,6 @@
 // The calls that change a tracker.
+ghost use Rattle.std.specs.Prelude.{◌≡◌, ◌%◌, get_or};
+
 use crate::asks::header_text;
 use crate::book::Book;
 use calls::Accepted;
@@ -36,7 +38,11 @@ pub fn enable<W: Write>(out: &mut W, line: &Line, book: &mut Book) -> io::Result
 }
 
 // The flow whose number and ends these numbers begin with.
-pub fn flow_of(numbers: &[u64]) -> Flow {
+pub fn flow_of(numbers: &[u64]) -> Flow
+    ensures number { result.number ≡ get_or numbers.now 0 0 % 4294967296 }
+    ensures from { result.from ≡ get_or numbers.now 1 0 % 4294967296 }
+    ensures to { result.to ≡ get_or numbers.now 2 0 % 4294967296 }
+{
     Flow {
         number: small(numbers, 0),
         from: small(numbers, 1),

@@ -1,7 +1,7 @@
 // Lines of a script, and what is printed of them. A line is a word, and behind it numbers with single spaces between them.
 #![tactic(auto)]
 
-ghost use Rattle.std.specs.Prelude.{◌≤◌};
+ghost use Rattle.std.specs.Prelude.{◌≡◌, ◌≤◌, ◌%◌, ltb, length, get_or, drop, is_none};
 
 pub mod print;
 
@@ -35,22 +35,30 @@ impl Line<'_> {
     }
 
     // The i-th number, 0 past the last.
-    pub fn get(&self, i: usize) -> u64 {
+    pub fn get(&self, i: usize) -> u64
+        ensures { result ≡ get_or self.now.numbers.items i 0 }
+    {
         self.numbers.get(i).copied().unwrap_or(0)
     }
 
     // The same as a number of 32 bits.
-    pub fn small(&self, i: usize) -> u32 {
+    pub fn small(&self, i: usize) -> u32
+        ensures { result ≡ get_or self.now.numbers.items i 0 % 4294967296 }
+    {
         small(&self.numbers, i)
     }
 
     // The numbers from the i-th on.
-    pub fn from(&self, i: usize) -> &[u64] {
+    pub fn from(&self, i: usize) -> &[u64]
+        ensures { result.now ≡ drop i self.now.numbers.items }
+    {
         self.numbers.get(i..).unwrap_or(&[])
     }
 
     // The numbers from the i-th on as bytes, or nothing where there are not so many.
-    pub fn bytes(&self, i: usize) -> Option<ArrayVec<u8, 64>> {
+    pub fn bytes(&self, i: usize) -> Option<ArrayVec<u8, 64>>
+        ensures { is_none result ≡ ltb (length self.now.numbers.items) i }
+    {
         let numbers = self.numbers.get(i..)?;
         let mut bytes = ArrayVec::new();
         for number in numbers {
@@ -75,7 +83,9 @@ fn number_of(digits: &[u8]) -> u64 {
 }
 
 // The i-th of these numbers modulo 2 ^ 32, 0 past the last.
-pub fn small(numbers: &[u64], i: usize) -> u32 {
+pub fn small(numbers: &[u64], i: usize) -> u32
+    ensures { result ≡ get_or numbers.now i 0 % 4294967296 }
+{
     (numbers.get(i).copied().unwrap_or(0) % 4294967296) as u32
 }
 

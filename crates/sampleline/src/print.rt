@@ -1,4 +1,6 @@
 // Bytes, numbers, sets and answers, written to an output.
+ghost use Rattle.std.specs.Prelude.{◌≡◌, codes, cond};
+
 use refusal::Refusal;
 use std::fmt::Display;
 use std::io;
@@ -24,7 +26,9 @@ pub fn spaced_tags<W: Write>(out: &mut W, set: TagSet) -> io::Result<()> {
 }
 
 // Yes or no.
-pub fn yes(b: bool) -> &'static str {
+pub fn yes(b: bool) -> &'static str
+    ensures { result.now ≡ cond b (codes "yes") (codes "no") }
+{
     if b { "yes" } else { "no" }
 }
 
