@@ -2,7 +2,7 @@
 ghost use Rattle.std.specs.Prelude.{◌≡◌, ◌%◌, get_or};
 
 use crate::asks::header_text;
-use crate::book::Book;
+use crate::storage::Storage;
 use calls::Accepted;
 use model::Flow;
 use refusal::Refusal;
@@ -13,28 +13,38 @@ use std::io;
 use std::io::Write;
 
 // `start N`, with the header that comes back: that of no tracker where it is refused.
-pub fn start<W: Write>(out: &mut W, line: &Line, book: &mut Book) -> io::Result<()> {
-    *book.header = Header::NONE;
+pub fn start<W: Write>(out: &mut W, line: &Line, storage: &mut Storage) -> io::Result<()> {
+    *storage.header = Header::NONE;
     let n = line.small(0);
-    let reply = calls::start(n, book.tags, book.policies, book.counts, book.flows);
-    told(out, book.header, reply)?;
+    let reply = calls::start(
+        n,
+        storage.tags,
+        storage.policies,
+        storage.counts,
+        storage.flows,
+    );
+    told(out, storage.header, reply)?;
     out.write_all(b", ")?;
-    header_text(out, *book.header)
+    header_text(out, *storage.header)
 }
 
 // `enable K F T`.
-pub fn enable<W: Write>(out: &mut W, line: &Line, book: &mut Book) -> io::Result<()> {
-    let flow = flow_of(line.from(0));
-    let now = *book.header;
-    let reply = calls::enable(
+pub fn enable<W: Write>(out: &mut W, line: &Line, storage: &mut Storage) -> io::Result<()> {
+    let reply = enabled(storage, flow_of(line.from(0)));
+    told(out, storage.header, reply)
+}
+
+// What enabling this flow answers.
+fn enabled(storage: &mut Storage, flow: Flow) -> Result<Accepted, Refusal> {
+    let now = *storage.header;
+    calls::enable(
         now,
-        book.tags,
-        &mut *book.policies,
-        &mut *book.counts,
-        book.flows,
+        storage.tags,
+        &mut *storage.policies,
+        &mut *storage.counts,
+        storage.flows,
         flow,
-    );
-    told(out, book.header, reply)
+    )
 }
 
 // The flow whose number and ends these numbers begin with.
@@ -51,56 +61,48 @@ pub fn flow_of(numbers: &[u64]) -> Flow
 }
 
 // `disable K`.
-pub fn disable<W: Write>(out: &mut W, line: &Line, book: &mut Book) -> io::Result<()> {
+pub fn disable<W: Write>(out: &mut W, line: &Line, storage: &mut Storage) -> io::Result<()> {
     let number = line.small(0);
-    let now = *book.header;
+    let now = *storage.header;
     let reply = calls::disable(
         now,
-        &mut *book.tags,
-        &mut *book.policies,
-        &mut *book.counts,
-        book.flows,
+        &mut *storage.tags,
+        &mut *storage.policies,
+        &mut *storage.counts,
+        storage.flows,
         number,
     );
-    told(out, book.header, reply)
+    told(out, storage.header, reply)
 }
 
 // `add C T..`: the policy set of these tags.
-pub fn add<W: Write>(out: &mut W, line: &Line, book: &mut Book) -> io::Result<()> {
+pub fn add<W: Write>(out: &mut W, line: &Line, storage: &mut Storage) -> io::Result<()> {
     let c = line.small(0);
     let policy = set_of(line.from(1));
-    let now = *book.header;
+    let now = *storage.header;
     let reply = calls::add_policy(
         now,
-        &mut *book.tags,
-        book.policies,
-        book.counts,
-        &mut *book.flows,
+        &mut *storage.tags,
+        storage.policies,
+        storage.counts,
+        &mut *storage.flows,
         c,
         policy,
     );
-    told(out, book.header, reply)
+    told(out, storage.header, reply)
 }
 
 // `fill N`: enables N flows from 0 to 1, each with the next number. Nothing is printed.
-pub fn fill(line: &Line, book: &mut Book) {
+pub fn fill(line: &Line, storage: &mut Storage) {
     for _ in 0..line.small(0) {
-        let now = *book.header;
         let flow = Flow {
-            number: now.greatest % 65536 + 1,
+            number: storage.header.greatest % 65536 + 1,
             from: 0,
             to: 1,
         };
-        let reply = calls::enable(
-            now,
-            book.tags,
-            &mut *book.policies,
-            &mut *book.counts,
-            book.flows,
-            flow,
-        );
+        let reply = enabled(storage, flow);
         if let Ok(accepted) = reply {
-            *book.header = accepted.header;
+            *storage.header = accepted.header;
         }
     }
 }

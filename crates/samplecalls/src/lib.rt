@@ -2,6 +2,6 @@
 #![tactic(auto)]
 
 pub mod asks;
-pub mod book;
 pub mod changes;
 pub mod pokes;
+pub mod storage;

@@ -3,8 +3,8 @@
 
 use model::Flow;
 use samplecalls::asks::header_text;
-use samplecalls::book::Book;
 use samplecalls::changes::{flow_of, told};
+use samplecalls::storage::Storage;
 use sampleline::Line;
 use std::io;
 use std::io::Write;
@@ -26,14 +26,26 @@ pub fn go_on(
 }
 
 // `lent K F T B..`: a log replayed and a flow enabled after it by the public calls, on a lent table of other content. The script's header and table stay.
-pub fn lent<W: Write>(out: &mut W, line: &Line, bytes: &[u8], book: &mut Book) -> io::Result<()> {
+pub fn lent<W: Write>(
+    out: &mut W,
+    line: &Line,
+    bytes: &[u8],
+    storage: &mut Storage,
+) -> io::Result<()> {
     let content = Flow {
         number: 7,
         from: 8,
         to: 9,
     };
     let flow = flow_of(line.from(0));
-    let (mut after, reply) = go_on(bytes, book.tags, book.policies, book.counts, content, flow);
+    let (mut after, reply) = go_on(
+        bytes,
+        storage.tags,
+        storage.policies,
+        storage.counts,
+        content,
+        flow,
+    );
     told(out, &mut after, reply)?;
     out.write_all(b", ")?;
     header_text(out, after)

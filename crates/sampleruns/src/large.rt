@@ -3,7 +3,7 @@ ghost use Rattle.std.specs.Iterator.{IsFinite};
 
 use crate::runs::{replay_log, tally};
 use eventlog::Event;
-use samplecalls::book::{Book, front};
+use samplecalls::storage::{Storage, front};
 use sampleline::Line;
 use std::io;
 use std::io::Write;
@@ -13,21 +13,21 @@ pub fn large<W: Write>(
     out: &mut W,
     line: &Line,
     records: usize,
-    book: &mut Book,
+    storage: &mut Storage,
 ) -> io::Result<()> {
     let mut bytes = [0u8; 16385];
     let length = put_log(&mut bytes, line.small(0)).min(16385);
     let log = &bytes[..length];
-    let mut part = Book {
-        header: &mut *book.header,
-        tags: &mut *book.tags,
-        policies: &mut *book.policies,
-        counts: &mut *book.counts,
-        flows: front(book.flows, records),
+    let mut part = Storage {
+        header: &mut *storage.header,
+        tags: &mut *storage.tags,
+        policies: &mut *storage.policies,
+        counts: &mut *storage.counts,
+        flows: front(storage.flows, records),
     };
     replay_log(out, log, &mut part)?;
     out.write_all(b", text")?;
-    tally(out, log, book)
+    tally(out, log, storage)
 }
 
 // Writes a log and answers its length: 513 flows; 16,384 bytes, and one more; 256 containers with no flow, and in a ring.

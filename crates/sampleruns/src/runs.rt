@@ -1,7 +1,7 @@
 // Replays and texts in the script's tracker.
 use report::Tallied;
 use samplecalls::asks::header_text;
-use samplecalls::book::Book;
+use samplecalls::storage::Storage;
 use sampleline::Line;
 use sampleline::print::{read, written};
 use std::io;
@@ -20,9 +20,15 @@ pub fn judge<W: Write>(out: &mut W, line: &Line, bytes: &[u8]) -> io::Result<()>
 }
 
 // `replay B..`: how the run ended, the events done, their gain and the header.
-pub fn replay_log<W: Write>(out: &mut W, bytes: &[u8], book: &mut Book) -> io::Result<()> {
-    let run = replay::replay(bytes, book.tags, book.policies, book.counts, book.flows);
-    *book.header = run.header;
+pub fn replay_log<W: Write>(out: &mut W, bytes: &[u8], storage: &mut Storage) -> io::Result<()> {
+    let run = replay::replay(
+        bytes,
+        storage.tags,
+        storage.policies,
+        storage.counts,
+        storage.flows,
+    );
+    *storage.header = run.header;
     match run.stop {
         None => out.write_all(b": complete")?,
         Some(stop) => write!(out, ": refused {} at {}", stop.refusal, stop.byte)?,
@@ -32,10 +38,16 @@ pub fn replay_log<W: Write>(out: &mut W, bytes: &[u8], book: &mut Book) -> io::R
 }
 
 // `tally B..`: the whole text, on lines of its own without its last newline, or only how long it is where that is above 512.
-pub fn tally<W: Write>(out: &mut W, bytes: &[u8], book: &mut Book) -> io::Result<()> {
+pub fn tally<W: Write>(out: &mut W, bytes: &[u8], storage: &mut Storage) -> io::Result<()> {
     let mut text = [0u8; 264256];
-    let done = report::tally(bytes, book.tags, book.policies, book.counts, &mut text);
-    keep(&done, book);
+    let done = report::tally(
+        bytes,
+        storage.tags,
+        storage.policies,
+        storage.counts,
+        &mut text,
+    );
+    keep(&done, storage);
     out.write_all(b":")?;
     match done.reply {
         Ok(length) if 512 < length => write!(out, " {length} bytes of text"),
@@ -49,18 +61,29 @@ pub fn tally<W: Write>(out: &mut W, bytes: &[u8], book: &mut Book) -> io::Result
 }
 
 // `short L B..`: the text into L bytes of 7, at most 64, and what they have then.
-pub fn short<W: Write>(out: &mut W, line: &Line, bytes: &[u8], book: &mut Book) -> io::Result<()> {
+pub fn short<W: Write>(
+    out: &mut W,
+    line: &Line,
+    bytes: &[u8],
+    storage: &mut Storage,
+) -> io::Result<()> {
     let n = (line.get(0) % 65) as usize;
     let mut text = [7u8; 64];
-    let done = report::tally(bytes, book.tags, book.policies, book.counts, &mut text[..n]);
-    keep(&done, book);
+    let done = report::tally(
+        bytes,
+        storage.tags,
+        storage.policies,
+        storage.counts,
+        &mut text[..n],
+    );
+    keep(&done, storage);
     written(out, done.reply, &text[..n])
 }
 
 // Keeps the header and the flow table that a run of `tally` left: it has a table of its own.
-fn keep(done: &Tallied, book: &mut Book) {
-    *book.header = done.header;
-    for (place, flow) in book.flows.iter_mut().zip(done.flows.iter()) {
+fn keep(done: &Tallied, storage: &mut Storage) {
+    *storage.header = done.header;
+    for (place, flow) in storage.flows.iter_mut().zip(done.flows.iter()) {
         *place = *flow;
     }
 }

@@ -2,8 +2,8 @@
 #![tactic(auto)]
 
 use model::Flow;
-use samplecalls::book::{Book, Room, front};
 use samplecalls::changes::flow_of;
+use samplecalls::storage::{Room, Storage, front};
 use samplecalls::{asks, changes, pokes};
 use sampleline::Line;
 use samplelog::{logs, numbers, sets};
@@ -28,7 +28,7 @@ fn run<W: Write>(out: &mut W, script: &[u8]) -> io::Result<()> {
     let mut counts = [0u8; 257];
     let mut flows = [Flow::NONE; 600];
     let mut room = Room::ALL;
-    let mut book = Book {
+    let mut storage = Storage {
         header: &mut header,
         tags: &mut tags,
         policies: &mut policies,
@@ -46,7 +46,7 @@ fn run<W: Write>(out: &mut W, script: &[u8]) -> io::Result<()> {
         out.write_all(text)?;
         let line = Line::of(text);
         room = room_after(out, &line, room)?;
-        lend(out, &line, room, &mut book)?;
+        lend(out, &line, room, &mut storage)?;
         out.write_all(b"\n")?;
     }
     Ok(())
@@ -54,7 +54,7 @@ fn run<W: Write>(out: &mut W, script: &[u8]) -> io::Result<()> {
 
 // Does what a line says with so much of each list. `flow`, `list` and what the runs of `tally` leave go by 512 records of
 // the flow table, however many are lent.
-fn lend<W: Write>(out: &mut W, line: &Line, room: Room, whole: &mut Book) -> io::Result<()> {
+fn lend<W: Write>(out: &mut W, line: &Line, room: Room, whole: &mut Storage) -> io::Result<()> {
     match line.word {
         b"flow" => Ok(pokes::put(front(whole.flows, 512), line.get(0), flow_of(line.from(1)))),
         b"list" => asks::list(out, *whole.header, front(whole.flows, 512)),
@@ -63,14 +63,14 @@ fn lend<W: Write>(out: &mut W, line: &Line, room: Room, whole: &mut Book) -> io:
                 b"tally" | b"short" | b"large" => 512,
                 _ => room.flows,
             };
-            let mut book = Book {
+            let mut storage = Storage {
                 header: &mut *whole.header,
                 tags: front(whole.tags, room.tags),
                 policies: front(whole.policies, room.policies),
                 counts: front(whole.counts, room.counts),
                 flows: front(whole.flows, records),
             };
-            step(out, line, room.flows, &mut book)
+            step(out, line, room.flows, &mut storage)
         }
     }
 }
@@ -94,12 +94,17 @@ fn room_after<W: Write>(out: &mut W, line: &Line, room: Room) -> io::Result<Room
 }
 
 // Does what a line says, if it has numbers enough. `large` replays in so many records.
-fn step<W: Write>(out: &mut W, line: &Line, records: usize, book: &mut Book) -> io::Result<()> {
+fn step<W: Write>(
+    out: &mut W,
+    line: &Line,
+    records: usize,
+    storage: &mut Storage,
+) -> io::Result<()> {
     if line.word == b"large".as_slice() {
-        return large::large(out, line, records, book);
+        return large::large(out, line, records, storage);
     }
     match line.bytes(first_byte(line.word)) {
-        Some(bytes) => change(out, line, &bytes, book),
+        Some(bytes) => change(out, line, &bytes, storage),
         None => out.write_all(b": too few numbers"),
     }
 }
@@ -116,23 +121,28 @@ fn first_byte(word: &[u8]) -> usize {
 }
 
 // Does what a line says. The words that change the tracker, or write past the calls.
-fn change<W: Write>(out: &mut W, line: &Line, bytes: &[u8], book: &mut Book) -> io::Result<()> {
+fn change<W: Write>(
+    out: &mut W,
+    line: &Line,
+    bytes: &[u8],
+    storage: &mut Storage,
+) -> io::Result<()> {
     match line.word {
-        b"start" => changes::start(out, line, book),
-        b"enable" => changes::enable(out, line, book),
-        b"disable" => changes::disable(out, line, book),
-        b"add" => changes::add(out, line, book),
-        b"fill" => Ok(changes::fill(line, book)),
-        b"header" => Ok(*book.header = pokes::header(line)),
-        b"word" => Ok(pokes::put(book.tags, line.get(0), line.get(1))),
-        b"policy" => Ok(pokes::put(book.policies, line.get(0), line.get(1))),
-        b"count" => Ok(pokes::put(book.counts, line.get(0), (line.get(1) % 256) as u8)),
-        b"exec" => Ok(pokes::exec(line, book.tags)),
-        b"replay" => runs::replay_log(out, bytes, book),
-        b"lent" => samplelent::lent(out, line, bytes, book),
-        b"tally" => runs::tally(out, bytes, book),
-        b"short" => runs::short(out, line, bytes, book),
-        _ => ask(out, line, bytes, &book.seen()),
+        b"start" => changes::start(out, line, storage),
+        b"enable" => changes::enable(out, line, storage),
+        b"disable" => changes::disable(out, line, storage),
+        b"add" => changes::add(out, line, storage),
+        b"fill" => Ok(changes::fill(line, storage)),
+        b"header" => Ok(*storage.header = pokes::header(line)),
+        b"word" => Ok(pokes::put(storage.tags, line.get(0), line.get(1))),
+        b"policy" => Ok(pokes::put(storage.policies, line.get(0), line.get(1))),
+        b"count" => Ok(pokes::put(storage.counts, line.get(0), (line.get(1) % 256) as u8)),
+        b"exec" => Ok(pokes::exec(line, storage.tags)),
+        b"replay" => runs::replay_log(out, bytes, storage),
+        b"lent" => samplelent::lent(out, line, bytes, storage),
+        b"tally" => runs::tally(out, bytes, storage),
+        b"short" => runs::short(out, line, bytes, storage),
+        _ => ask(out, line, bytes, &storage.seen()),
     }
 }
 

@@ -44,10 +44,10 @@ impl Room {
 }
 
 // The script's tracker: its header, and what is lent of the lists. A list that a call only reads is handed to it as
-// `&mut *book.tags`: `book.tags` is then a read of the book while another list of it is lent, for which the borrow
+// `&mut *storage.tags`: `storage.tags` is then a read of the storage while another list of it is lent, for which the borrow
 // checker has no rule.
 #[derive(Drop)]
-pub struct Book<'a> {
+pub struct Storage<'a> {
     pub header: &'a mut Header,
     pub tags: &'a mut [u64],
     pub policies: &'a mut [u64],
@@ -55,7 +55,7 @@ pub struct Book<'a> {
     pub flows: &'a mut [Flow],
 }
 
-impl Book<'_> {
+impl Storage<'_> {
     // What a question is asked of.
     pub fn seen(&self) -> Tracker<'_>
         ensures header { (state_in result).header ≡ self.now.header.now }
