@@ -1,11 +1,12 @@
 // Lines of a script, and what is printed of them. A line is a word, and behind it numbers with single spaces between them.
 #![tactic(auto)]
 
-ghost use Rattle.std.specs.Prelude.{◌≡◌, ◌≤◌, ◌%◌, ltb, length, get_or, drop, is_none};
+ghost use Rattle.std.specs.Prelude.{◌≡◌, ℕ, ◌<◌, ◌≤◌, ◌%◌, ◌^◌, ltb, length, get_or, drop, is_none, decimal};
 
 pub mod print;
 
 use arrayvec::ArrayVec;
+use std::str;
 use tagset::TagSet;
 
 // A line: its word, and the numbers behind it, at most 64.
@@ -68,18 +69,11 @@ impl Line<'_> {
     }
 }
 
-// The number of these digits, modulo 2 ^ 64.
-fn number_of(digits: &[u8]) -> u64 {
-    let mut value: u64 = 0;
-    for digit in digits {
-        if *digit < b'0' {
-            break;
-        }
-        value = value
-            .wrapping_mul(10)
-            .wrapping_add((u64::from(*digit) + 2) % 10);
-    }
-    value
+// The number of these digits, 0 where they are none of 64 bits.
+fn number_of(digits: &[u8]) -> u64
+    ensures { (n : ℕ) → n < 2 ^ 64 → digits.now ≡ decimal n → result ≡ n }
+{
+    str::from_utf8(digits).map_or(0, |text| text.parse().unwrap_or(0))
 }
 
 // The i-th of these numbers modulo 2 ^ 32, 0 past the last.
