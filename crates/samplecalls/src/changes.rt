@@ -1,12 +1,11 @@
 // The calls that change a tracker.
 ghost use Rattle.std.specs.Prelude.{◌≡◌, ◌%◌, get_or};
 
-use crate::asks::header_text;
+use crate::print::HeaderText;
 use crate::storage::Storage;
 use calls::Accepted;
 use model::Flow;
 use refusal::Refusal;
-use sampleline::print::refused;
 use sampleline::{Line, set_of, small};
 use state::Header;
 use std::io;
@@ -24,8 +23,7 @@ pub fn start<W: Write>(out: &mut W, line: &Line, storage: &mut Storage) -> io::R
         storage.flows,
     );
     told(out, storage.header, reply)?;
-    out.write_all(b", ")?;
-    header_text(out, *storage.header)
+    write!(out, ", {}", HeaderText(*storage.header))
 }
 
 // `enable K F T`.
@@ -118,6 +116,6 @@ pub fn told<W: Write>(
             *header = accepted.header;
             write!(out, ": accepted, gain {}", accepted.gain)
         }
-        Err(refusal) => refused(out, refusal),
+        Err(refusal) => write!(out, ": refused {refusal}"),
     }
 }

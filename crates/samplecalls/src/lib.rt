@@ -4,4 +4,5 @@
 pub mod asks;
 pub mod changes;
 pub mod pokes;
+pub mod print;
 pub mod storage;

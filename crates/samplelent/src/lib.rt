@@ -2,8 +2,8 @@
 #![tactic(auto)]
 
 use model::Flow;
-use samplecalls::asks::header_text;
 use samplecalls::changes::{flow_of, told};
+use samplecalls::print::HeaderText;
 use samplecalls::storage::Storage;
 use sampleline::Line;
 use std::io;
@@ -47,6 +47,5 @@ pub fn lent<W: Write>(
         flow,
     );
     told(out, &mut after, reply)?;
-    out.write_all(b", ")?;
-    header_text(out, after)
+    write!(out, ", {}", HeaderText(after))
 }

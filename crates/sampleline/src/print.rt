@@ -1,28 +1,47 @@
-// Bytes, numbers, sets and answers, written to an output.
-ghost use Rattle.std.specs.Prelude.{◌≡◌, codes, cond};
+// Bytes, numbers, sets and answers, as a script prints them.
+ghost use Rattle.std.specs.Prelude.{◌≡◌, ◌++◌, [], Some, codes, cond, decimal, filter, fold};
+ghost use Rattle.std.specs.List.{flat_map, range_with_len};
+ghost use Rattle.std.specs.Fmt.{◌++?◌};
+ghost use Rattle.tagset.specs.Set.{has};
 
 use refusal::Refusal;
 use std::fmt::Display;
-use std::io;
 use std::io::Write;
+use std::{fmt, io};
 use tagset::TagSet;
 
-// Writes these, with a space before each.
-pub fn spaced<W: Write, T: Display>(out: &mut W, items: &[T]) -> io::Result<()> {
-    for item in items {
-        write!(out, " {item}")?;
+// These, with a space before each.
+#[derive(Clone, Copy)]
+pub struct Spaced<'a, T>(pub &'a [T]);
+
+impl<T: Display> Display for Spaced<'_, T> {
+    ghost output = { λ s. fold (λ text item. text ++? (Some (codes " ") ++? T.output item)) (Some []) s.0.now };
+
+    fn fmt<W: fmt::Write>(&self, f: &mut fmt::Formatter<W>) -> fmt::Result {
+        for item in self.0 {
+            write!(f, " {item}")?;
+        }
+        Ok(())
     }
-    Ok(())
 }
 
-// Writes the tags, rising, with a space before each.
-pub fn spaced_tags<W: Write>(out: &mut W, set: TagSet) -> io::Result<()> {
-    for tag in 0..256 {
-        if set.contains(tag) {
-            write!(out, " {tag}")?;
+// The tags, rising, with a space before each.
+#[derive(Clone, Copy)]
+pub struct Tags(pub TagSet);
+
+impl Display for Tags {
+    ghost output = { λ s. Some (flat_map (λ tag. codes " " ++ decimal tag) (filter (has s.0) (range_with_len 0 256))) };
+
+    fn fmt<W: fmt::Write>(&self, f: &mut fmt::Formatter<W>) -> fmt::Result {
+        let set = self.0;
+        // No `filter`: a loop over one with an invariant does not check where the function has a type parameter.
+        for tag in 0..256 {
+            if set.contains(tag) {
+                write!(f, " {tag}")?;
+            }
         }
+        Ok(())
     }
-    Ok(())
 }
 
 // Yes or no.
@@ -32,11 +51,6 @@ pub fn yes(b: bool) -> &'static str
     if b { "yes" } else { "no" }
 }
 
-// Writes a refusal.
-pub fn refused<W: Write>(out: &mut W, refusal: Refusal) -> io::Result<()> {
-    write!(out, ": refused {refusal}")
-}
-
 // Writes what reading answers: what was read, and the position after it.
 pub fn read<W: Write, T: Display + Drop>(
     out: &mut W,
@@ -44,7 +58,7 @@ pub fn read<W: Write, T: Display + Drop>(
 ) -> io::Result<()> {
     match reply {
         Ok((value, next)) => write!(out, ": {value}, next {next}"),
-        Err(refusal) => refused(out, refusal),
+        Err(refusal) => write!(out, ": refused {refusal}"),
     }
 }
 
@@ -54,10 +68,9 @@ pub fn written<W: Write>(
     reply: Result<usize, Refusal>,
     left: &[u8],
 ) -> io::Result<()> {
+    let left = Spaced(left);
     match reply {
-        Ok(next) => write!(out, ": next {next}")?,
-        Err(refusal) => refused(out, refusal)?,
+        Ok(next) => write!(out, ": next {next}, leaves{left}"),
+        Err(refusal) => write!(out, ": refused {refusal}, leaves{left}"),
     }
-    out.write_all(b", leaves")?;
-    spaced(out, left)
 }

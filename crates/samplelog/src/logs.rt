@@ -1,10 +1,29 @@
 // Records and heads, read and written.
+ghost use Rattle.std.specs.Prelude.{◌++◌, Some, codes, cond, decimal, drop, eqb, get_or};
+ghost use Rattle.std.specs.List.{flat_map};
+ghost use Rattle.eventlog.specs.Answer.{fields_of};
+
 use eventlog::Event;
-use refusal::Refusal;
-use sampleline::print::{refused, written};
+use sampleline::print::{read, written};
 use sampleline::{Line, small};
-use std::io;
 use std::io::Write;
+use std::{fmt, io};
+
+// An event, as a script prints it: what happens, and the flow's numbers.
+#[derive(Clone, Copy)]
+pub struct EventText(pub Event);
+
+impl fmt::Display for EventText {
+    ghost output = { λ e. Some (cond (eqb (get_or (fields_of e.0) 0 0) 0) (codes "enable") (codes "disable")
+        ++ flat_map (λ n. codes " " ++ decimal n) (drop 1 (fields_of e.0))) };
+
+    fn fmt<W: fmt::Write>(&self, f: &mut fmt::Formatter<W>) -> fmt::Result {
+        match self.0 {
+            Event::Enable { number, from, to } => write!(f, "enable {number} {from} {to}"),
+            Event::Disable { number } => write!(f, "disable {number}"),
+        }
+    }
+}
 
 // `log B..`: n and the events of a log, up to its end or the refusal.
 pub fn log<W: Write>(out: &mut W, bytes: &[u8]) -> io::Result<()> {
@@ -13,10 +32,7 @@ pub fn log<W: Write>(out: &mut W, bytes: &[u8]) -> io::Result<()> {
             write!(out, ": n {n}")?;
             records(out, bytes, first)
         }
-        Err(refusal) => {
-            refused(out, refusal)?;
-            out.write_all(b" at 0")
-        }
+        Err(refusal) => write!(out, ": refused {refusal} at 0"),
     }
 }
 
@@ -27,35 +43,21 @@ fn records<W: Write>(out: &mut W, bytes: &[u8], first: usize) -> io::Result<()> 
         if bytes.len() <= at {
             return out.write_all(b", end");
         }
-        let record = eventlog::read_record(bytes, at);
-        out.write_all(b", ")?;
-        record_text(out, record)?;
-        match record {
-            Ok((_, next)) => at = next,
-            Err(_) => return write!(out, " at {at}"),
+        match eventlog::read_record(bytes, at) {
+            Ok((event, next)) => {
+                write!(out, ", {}", EventText(event))?;
+                at = next;
+            }
+            Err(refusal) => return write!(out, ", refused {refusal} at {at}"),
         }
     }
     Ok(())
 }
 
-// What reading a record gave.
-fn record_text<W: Write>(out: &mut W, record: Result<(Event, usize), Refusal>) -> io::Result<()> {
-    match record {
-        Ok((Event::Enable { number, from, to }, _)) => write!(out, "enable {number} {from} {to}"),
-        Ok((Event::Disable { number }, _)) => write!(out, "disable {number}"),
-        Err(refusal) => write!(out, "refused {refusal}"),
-    }
-}
-
 // `item P B..`: the record at position P of the bytes.
 pub fn item<W: Write>(out: &mut W, line: &Line, bytes: &[u8]) -> io::Result<()> {
     let record = eventlog::read_record(bytes, line.get(0) as usize);
-    out.write_all(b": ")?;
-    record_text(out, record)?;
-    if let Ok((_, next)) = record {
-        write!(out, ", next {next}")?;
-    }
-    Ok(())
+    read(out, record.map(|(event, next)| (EventText(event), next)))
 }
 
 // The event of these numbers: a disable, where there is no more than its number.

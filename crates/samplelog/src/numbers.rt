@@ -1,21 +1,14 @@
 // Numbers in groups of seven bits.
 use sampleline::Line;
-use sampleline::print::{read, spaced, written};
+use sampleline::print::{Spaced, read, written};
 use std::io;
 use std::io::Write;
 
 // `number V`: the bytes of V.
 pub fn number<W: Write>(out: &mut W, line: &Line) -> io::Result<()> {
     let mut bytes = [0u8; 10];
-    let reply = leb128::encode(&mut bytes, 0, line.get(0));
-    out.write_all(b":")?;
-    spaced(
-        out,
-        reply
-            .ok()
-            .and_then(|length| bytes.get(..length))
-            .unwrap_or(&[]),
-    )
+    let length = leb128::encode(&mut bytes, 0, line.get(0)).unwrap_or(0);
+    write!(out, ":{}", Spaced(bytes.get(..length).unwrap_or(&[])))
 }
 
 // `decode W P B..`: the number of at most W bits at position P of the bytes.

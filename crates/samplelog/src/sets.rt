@@ -1,5 +1,5 @@
 // Tag sets.
-use sampleline::print::{spaced_tags, yes};
+use sampleline::print::{Tags, yes};
 use sampleline::{Line, set_of};
 use std::io;
 use std::io::Write;
@@ -16,10 +16,8 @@ pub fn pair<W: Write>(out: &mut W, line: &Line) -> io::Result<()> {
     let (front, back) = tags.split_at(middle);
     let first = set_of(front);
     let second = set_of(back);
-    out.write_all(b": union")?;
-    spaced_tags(out, first.union(second))?;
-    out.write_all(b", intersection")?;
-    spaced_tags(out, first.intersection(second))?;
+    write!(out, ": union{}", Tags(first.union(second)))?;
+    write!(out, ", intersection{}", Tags(first.intersection(second)))?;
     write!(out, ", sizes {} {}", first.size(), second.size())?;
     write!(
         out,
@@ -32,8 +30,7 @@ pub fn pair<W: Write>(out: &mut W, line: &Line) -> io::Result<()> {
 // `under N`: the set of all tags below N.
 pub fn under<W: Write>(out: &mut W, line: &Line) -> io::Result<()> {
     let set = TagSet::below(line.small(0));
-    write!(out, ": size {},", set.size())?;
-    spaced_tags(out, set)
+    write!(out, ": size {},{}", set.size(), Tags(set))
 }
 
 // `over N T..`: whether the set names a tag of N or more.

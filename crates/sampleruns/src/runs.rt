@@ -1,6 +1,6 @@
 // Replays and texts in the script's tracker.
 use report::Tallied;
-use samplecalls::asks::header_text;
+use samplecalls::print::HeaderText;
 use samplecalls::storage::Storage;
 use sampleline::Line;
 use sampleline::print::{read, written};
@@ -33,8 +33,8 @@ pub fn replay_log<W: Write>(out: &mut W, bytes: &[u8], storage: &mut Storage) ->
         None => out.write_all(b": complete")?,
         Some(stop) => write!(out, ": refused {} at {}", stop.refusal, stop.byte)?,
     }
-    write!(out, ", events {}, gain {}, ", run.events, run.gain)?;
-    header_text(out, run.header)
+    let header = HeaderText(run.header);
+    write!(out, ", events {}, gain {}, {header}", run.events, run.gain)
 }
 
 // `tally B..`: the whole text, on lines of its own without its last newline, or only how long it is where that is above 512.
