@@ -1,5 +1,5 @@
 // What the script's lines work on: a header, and the part of each list that is lent.
-ghost use Rattle.std.specs.Prelude.{◌≡◌, ◌||◌, ltb, take, is_none, IfSome};
+ghost use Rattle.std.specs.Prelude.{◌≡◌, ◌&&◌, leb, take};
 ghost use Rattle.state.specs.State.{state_in, storage_of};
 
 use model::Flow;
@@ -15,31 +15,29 @@ pub struct Room {
 }
 
 impl Room {
-    // All that there is; of the flow table 512 records.
-    pub const ALL: Room = Room {
+    // All that there is.
+    pub const MOST: Room = Room {
         tags: 1028,
         policies: 4112,
         counts: 257,
-        flows: 512,
+        flows: 600,
     };
 
-    // So much of each list, if there is so much.
-    pub fn of(tags: usize, policies: usize, counts: usize, flows: usize) -> Option<Room>
-        ensures tags { IfSome result (λ r. r.tags ≡ tags) }
-        ensures policies { IfSome result (λ r. r.policies ≡ policies) }
-        ensures counts { IfSome result (λ r. r.counts ≡ counts) }
-        ensures flows { IfSome result (λ r. r.flows ≡ flows) }
-        ensures none { is_none result ≡ (ltb 1028 tags || ltb 4112 policies || ltb 257 counts || ltb 600 flows) }
+    // All that there is, but of the flow table 512 records.
+    pub const ALL: Room = Room {
+        flows: 512,
+        ..Room::MOST
+    };
+
+    // Whether there is so much of each list.
+    pub fn is_there(self) -> bool
+        ensures { result ≡ (leb self.tags 1028 && leb self.policies 4112 && leb self.counts 257 && leb self.flows 600) }
     {
-        if 1028 < tags || 4112 < policies || 257 < counts || 600 < flows {
-            return None;
-        }
-        Some(Room {
-            tags,
-            policies,
-            counts,
-            flows,
-        })
+        let most = Room::MOST;
+        self.tags <= most.tags
+            && self.policies <= most.policies
+            && self.counts <= most.counts
+            && self.flows <= most.flows
     }
 }
 

@@ -81,16 +81,17 @@ fn room_after<W: Write>(out: &mut W, line: &Line, room: Room) -> io::Result<Room
     if line.word != b"room".as_slice() {
         return Ok(room);
     }
-    let asked = Room::of(
-        line.get(0) as usize,
-        line.get(1) as usize,
-        line.get(2) as usize,
-        line.get(3) as usize,
-    );
-    if asked.is_none() {
-        out.write_all(b": more than there is")?;
+    let asked = Room {
+        tags: line.get(0) as usize,
+        policies: line.get(1) as usize,
+        counts: line.get(2) as usize,
+        flows: line.get(3) as usize,
+    };
+    if asked.is_there() {
+        return Ok(asked);
     }
-    Ok(asked.unwrap_or(room))
+    out.write_all(b": more than there is")?;
+    Ok(room)
 }
 
 // Does what a line says, if it has numbers enough. `large` replays in so many records.
