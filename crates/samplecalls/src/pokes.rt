@@ -12,6 +12,7 @@ pub fn put<T: Copy>(list: &mut [T], i: u64, value: T)
     ensures { list.new ≡ set list.old i value }
 {
     let i = i as usize;
+    // No `get_mut`: of the list after it the proof knows the length alone.
     if i < list.len() {
         list[i] = value;
     }
