@@ -95,7 +95,7 @@ impl Sets<'_> {
         ensures gain { result ≡ new_tags self.old.n found.now (a, b) self.old.words.now }
         ensures none { result ≡ 0 → self.new.words.now ≡ self.old.words.now }
     {
-        if self.n <= a || self.n <= b {
+        if self.n <= a.max(b) {
             return 0;
         }
         let i = b as usize;
@@ -103,10 +103,10 @@ impl Sets<'_> {
         let words = &mut *self.words;
         let old = tagstore::load_set(words, i);
         let source = tagstore::load_set(found, a as usize);
-        if source.is_subset(old) {
+        let new = old.union(source);
+        if new == old {
             return 0;
         }
-        let new = old.union(source);
         tagstore::store_set(words, i, new);
         new.size() - old.size()
     }
