@@ -44,10 +44,9 @@ impl TagSet {
     pub fn contains(self, tag: u32) -> bool
         ensures { result ≡ has self tag }
     {
-        match self.words.get((tag / 64) as usize) {
-            Some(word) => (word >> (tag % 64)) & 1 == 1,
-            None => false,
-        }
+        self.words
+            .get((tag / 64) as usize)
+            .is_some_and(|word| (word >> (tag % 64)) & 1 == 1)
     }
 
     // The tags of both sets together.
