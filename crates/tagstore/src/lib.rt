@@ -13,10 +13,11 @@ use tagset::TagSet;
 pub fn load_set(words: &[u64], k: usize) -> TagSet
     ensures { result ≡ load_of words.now k }
 {
-    match words.as_chunks().0.get(k) {
-        Some(words) => TagSet { words: *words },
-        None => TagSet::empty(),
-    }
+    words
+        .as_chunks()
+        .0
+        .get(k)
+        .map_or(TagSet::empty(), |words| TagSet { words: *words })
 }
 
 // Writes set k; changes nothing where the words do not have it whole.

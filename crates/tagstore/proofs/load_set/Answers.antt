@@ -1,11 +1,14 @@
 -- Set k is the k-th four of the words, where they have it whole. Assumes nothing.
-use Rattle.std.specs.Prelude.{◌≡◌, refl, List, [], ℕ, zero, suc, ◌+◌, ◌*◌, ◌/◌, ◌≤◌, ◌<◌, length, get_or, take, drop}
-use Rattle.std.proofs.Common.{sym, ap, ◌∙◌, arith, lit<, not-suc-le-zero, le_of_suc-le-suc, add-zero, length-take-le, get_or-drop, ltb-false}
+use Rattle.std.specs.Prelude.{◌≡◌, refl, List, [], ℕ, zero, suc, ◌+◌, ◌*◌, ◌/◌, ◌≤◌, ◌<◌, Option, None, Some, MatchOption, length, get_or, take, drop}
+use Rattle.std.proofs.Common.{ap, ◌∙◌, arith, lit<, not-suc-le-zero, le_of_suc-le-suc, add-zero, length-take-le, get_or-drop, subst, rules}
 use Rattle.std.proofs.lemmas.List.{drop-drop, get_or-take, length-drop}
 use Rattle.std.proofs.lemmas.Bool.{le-leb, lt-leb}
 use Rattle.std.specs.Simd.{first_chunks}
 use Rattle.tagset.specs.declared.TagSet.{TagSet}
 use Rattle.tagset.proofs.Word.{four-made}
+use Rattle.std.specs.List.{HoldsAt}
+use denote.Bor.{Bor}
+use Rattle.tagset.specs.Set.{empty_set}
 use Rattle.state.specs.State.{set_at}
 use Rattle.tagstore.specs.Store.{load_of}
 use Rattle.tagstore.proofs.load_set.Goals as goal
@@ -28,20 +31,21 @@ set_of ws k h =
     word : (j : ℕ) → j < 4 → get_or (take 4 (drop (4 * k) ws)) j 0 ≡ get_or ws (4 * k + j) 0
     word j l = get_or-take 4 (drop (4 * k) ws) j 0 l ∙ get_or-drop (4 * k) ws j 0
 
-pub returns-in-Some : goal.returns-in-Some
+-- the set by the four words found, if there are any
+told : (ws : List ℕ) (k : ℕ) (fours : List (List ℕ)) (found : Option (Bor (List ℕ))) (r : TagSet)
+    → fours ≡ first_chunks 4 (length ws / 4) ws → length fours ≡ length ws / 4
+    → MatchOption found (length fours ≤ k) (λ f. k < length fours × HoldsAt (λ x. f.now ≡ x) fours k)
+    → MatchOption found (r ≡ empty_set) (λ f. r ≡ record { words = f.now }) → r ≡ load_of ws k
 unfolding load_of
-returns-in-Some c =
-    let ws = c.args.words.now in
-    let k = c.args.k in
-    let found = c.in-Some.ensures.lookup in
-    let inside : k < length ws / 4 = omega (arith, found.3.0) in
+told ws k fours None r same many outside e = simp (le-leb _ _ (subst (λ (n : ℕ). n ≤ k) many outside)) e
+told ws k fours (Some f) r same many at e =
+    let inside : k < length ws / 4 = omega (arith, at.0, many) in
     simp (lt-leb _ _ inside)
-    (ap {B = TagSet} (λ (l : List ℕ). record { words = l })
-    (found.3.1 [] ∙ ap (λ (l : List (List ℕ)). get_or l k []) c.as_chunks.ensures.front ∙ four_at (length ws / 4) k ws [] inside)
-    ∙ set_of ws k (omega arith))
+    (e ∙ ap {B = TagSet} (λ (l : List ℕ). record { words = l })
+    (at.1 [] ∙ ap (λ (l : List (List ℕ)). get_or l k []) same ∙ four_at (length ws / 4) k ws [] inside)
+    ∙ set_of ws k (omega (arith, inside)))
 
-pub returns-in-None : goal.returns-in-None
-unfolding load_of
-returns-in-None c =
-    let outside : length c.args.words.now / 4 ≤ c.args.k = omega (arith, ltb-false _ _ (sym c.in-None.ensures.lookup.0)) in
-    simp (le-leb _ _ outside) c.empty.ensures
+pub returns : goal.returns
+returns c =
+    let chunks = c.as_chunks.ensures in
+    told c.args.words.now c.args.k _ c.get.result c.map_or.result chunks.front chunks.front_len c.get.ensures.lookup.3 (search rules)
