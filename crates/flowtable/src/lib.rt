@@ -17,6 +17,7 @@ pub fn find(flows: &[Flow], number: u32) -> Option<usize>
 pub fn append(flows: &mut [Flow], count: usize, flow: Flow)
     ensures { flows.new ≡ set flows.old count flow }
 {
+    // No get_mut and no split_at_mut_checked: of the flows after either the proof knows the length alone.
     if count < flows.len() {
         flows[count] = flow;
     }
