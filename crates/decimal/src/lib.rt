@@ -22,6 +22,7 @@ pub fn write_decimal(out: &mut [u8], at: usize, value: u64)
         return;
     }
     let mut rest = value;
+    // No iter_mut().rev(): of the digits after it the proof knows the length alone.
     for i in (0..n).rev() {
         out[at + i] = b'0' + (rest % 10) as u8;
         rest /= 10;
