@@ -1,7 +1,9 @@
--- A contract that gives what a call leaves determines its answer. Assumes nothing.
-use Rattle.std.specs.Prelude.{◌≡◌, List, ℕ, Result, Ok, Err}
+-- A contract that gives what a call leaves determines its answer, and a refused call has the outcome of its refusal's
+-- number. Assumes nothing.
+use Rattle.std.specs.Prelude.{◌≡◌, List, ℕ, ◌<◌, Result, Ok, Err}
 use Rattle.std.proofs.Common.{ap, arith}
 use Rattle.refusal.specs.declared.Refusal.{Refusal}
+use Rattle.refusal.specs.Number.{number_of}
 use Rattle.refusal.proofs.Number.{number-injective, number-positive}
 use Rattle.model.specs.declared.Flow.{Flow}
 use Rattle.state.specs.declared.Header.{Header}
@@ -22,3 +24,8 @@ left-injective (Err q) (Ok b) h tags policies counts flows e =
     absurd (omega (arith, ap (λ (o : Outcome). o.answer.refusal) e, number-positive q))
 left-injective (Err q) (Err r) h tags policies counts flows e =
     ap Err (number-injective q r (ap (λ (o : Outcome). o.answer.refusal) e))
+
+-- what a refused call leaves, by a law of the call that wants the refusal's number above 0
+pub refused-answer : {q : Result Accepted Refusal} (r : Refusal) {h : Header} {tags policies counts : List ℕ} {flows : List Flow} {o : Outcome}
+    → q ≡ Err r → (0 < number_of r → left_by (Err r) h tags policies counts flows ≡ o) → left_by q h tags policies counts flows ≡ o
+refused-answer r e law = rw e (law (number-positive r))
