@@ -103,6 +103,7 @@ impl Sheet<'_> {
         requires { self.old.at ≤ 4000000 }
         ensures { Puts self.old (b ∷ []) self.new }
     {
+        // No get_mut: of the output after it the proof knows no byte, not even the one that is written.
         if self.at < self.out.len() {
             self.out[self.at] = b;
         }
