@@ -1,4 +1,5 @@
-// Numbers as decimal text in a lent output (specs/Decimal.antt). Every function answers for all numbers, positions and outputs.
+// Numbers as decimal text in a lent output (specs/Decimal.antt). Every function answers for all numbers, positions and
+// outputs.
 #![tactic(auto)]
 
 ghost use Rattle.std.specs.Prelude.{◌≡◌, length};

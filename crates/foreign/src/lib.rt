@@ -1,8 +1,8 @@
 // The product for programs in other languages: its calls, the log's reader and writer and the text of `tally`, as
-// functions on numbers, slices and records. Each does what the function that its comment names does, and nothing else; a
-// refusal is said by its number. The crate foreign_c exports them as C functions.
-// A slice is a pointer and a length there. What no contract here can say, a caller in C owes: each pointer is aligned and
-// not null, its elements are there for the whole call, and what is lent to be written overlaps nothing else.
+// functions on numbers, slices and records. Each does what the function that its comment names does, and nothing else;
+// a refusal is said by its number. The crate foreign_c exports them as C functions.
+// A slice is a pointer and a length there. What no contract here can say, a caller in C owes: each pointer is aligned
+// and not null, its elements are there for the whole call, and what is lent to be written overlaps nothing else.
 // evidence/product and evidence/interface have the same records in Rust.
 #![tactic(auto)]
 
@@ -65,7 +65,8 @@ pub struct LegalAnswer {
     pub legal: bool,
 }
 
-// What a replay answers: the refusal's number or 0, the byte of the refused record, the events done, their gain, the header.
+// What a replay answers: the refusal's number or 0, the byte of the refused record, the events done, their gain, the
+// header.
 #[repr(C)]
 #[derive(Clone, Copy)]
 pub struct ReplayAnswer {
@@ -93,8 +94,8 @@ pub struct WriteAnswer {
     pub next: usize,
 }
 
-// What reading a record answers: the refusal's number or 0, the kind (0 an enable, 1 a disable), the flow (of a disable only its number), the position
-// after the record.
+// What reading a record answers: the refusal's number or 0, the kind (0 an enable, 1 a disable), the flow (of a disable
+// only its number), the position after the record.
 #[repr(C)]
 #[derive(Clone, Copy)]
 pub struct RecordAnswer {
@@ -368,8 +369,8 @@ fn number_of<T>(answer: &Result<T, Refusal>) -> u32
     }
 }
 
-// The numbers of what a call answers that began with this header: a refused one leaves it. (No `From`, which takes one
-// value.)
+// The numbers of what a call answers that began with this header: a refused one leaves it. (A `From` of the pair of
+// both would be no plainer: each call would make the pair.)
 fn call_answer(answer: Result<Accepted, Refusal>, header: Header) -> CallAnswer
     ensures { result ≡ call_told answer header }
 {

@@ -1,6 +1,6 @@
-// The product for programs in other languages: the functions of the crate `foreign`, exported as C functions of the same
-// names with the same contracts. Each calls the one that its comment names, and does nothing else. What a caller in C
-// owes stands at the head of that crate.
+// The product for programs in other languages: the functions of the crate `foreign`, exported as C functions of the
+// same names with the same contracts. Each calls the one that its comment names, and does nothing else. What a caller
+// in C owes stands at the head of that crate.
 // Each function stands again here, and not here alone, since no crate can depend on a static library, and the ties of
 // the claims are over functions of a crate: they are over `foreign`.
 #![tactic(auto)]

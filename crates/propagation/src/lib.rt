@@ -54,6 +54,7 @@ impl Sets<'_> {
         self.copy_sets(&mut found, 0, n);
         let mut gain: u32 = 0;
         let mut passes: u32 = 0;
+        // How many passes there are is known after the last, so there is no range to go over.
         'passes: loop {
             let mut added: u32 = 0;
             let mut first = n;

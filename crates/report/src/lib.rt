@@ -1,8 +1,10 @@
 // The text of `tally`: an input run in lent lists and a flow table of its own, and its report in a lent output.
 // What the text is stands in tallytext/specs/Text.antt.
-// The methods of `Sheet` take positions up to some millions, far past the end of every text (264,256 bytes): so no sum of
-// a position wraps. Each method has a bound of its own, since it moves the position on, so these are no invariant of the
-// type. They are no `write!`: its contract says nothing of an `Err`, and so not when a text does not fit.
+// The methods of `Sheet` take positions up to some millions, far past the end of every text (264,256 bytes): so no sum
+// of a position wraps. A method moves the position on, so it takes a smaller one than those that it calls, and no bound
+// is an invariant of the type. They are no `write!`: its contract says nothing of an `Err`, and so not when a text does
+// not fit. Room is fixed, since there is no heap, by the project's rule. `tally` takes the lists one by one, as the
+// calls do.
 #![tactic(auto)]
 
 ghost use Rattle.std.specs.Prelude.{◌≡◌, [], ◌∷◌, ◌++◌, ◌*◌, ◌≤◌, ◌<◌, length, replicate};
@@ -21,7 +23,7 @@ use state::Header;
 use tagset::TagSet;
 
 // What a run of `tally` gives back: the length of its text or that the output is too short, the header and the flow
-// table, which is its own and by value, since there is no heap, by the project's rule.
+// table, which is its own and so by value.
 #[derive(Clone, Copy)]
 pub struct Tallied {
     pub reply: Result<usize, Refusal>,
@@ -40,8 +42,8 @@ pub fn text(bytes: &[u8], out: &mut [u8]) -> Result<usize, Refusal>
     tally(bytes, &mut tags, &mut policies, &mut counts, out).reply
 }
 
-// Runs an input in these lists and a new flow table, and writes its text at the start of the output, or no byte where it
-// does not fit. Input above 16,384 bytes is not run.
+// Runs an input in these lists and a new flow table, and writes its text at the start of the output, or no byte where
+// it does not fit. Input above 16,384 bytes is not run.
 pub fn tally(
     bytes: &[u8],
     tags: &mut [u64],
@@ -67,8 +69,8 @@ pub fn tally(
     }
 }
 
-// Writes the report of a run at the start of the output, or no byte where it does not fit. Its length is found by putting
-// it where there is no place.
+// Writes the report of a run at the start of the output, or no byte where it does not fit. Its length is found by
+// putting it where there is no place.
 fn write_report(out: &mut [u8], tags: &[u64], run: &Replayed) -> Result<usize, Refusal>
     requires { (run.now.header.containers ≤ 256) × (4 * run.now.header.containers ≤ length tags.now) }
     ensures answer { writing_of result ≡ (write_at out.old 0 (report_in run.now tags.now)).answer }

@@ -2,8 +2,9 @@
 // read that fails, and a line on standard error says what failed.
 //
 // Of a reader whose bytes are known the contracts say which it gave; which bytes a file or standard input brings and a
-// write takes no contract can say. A function `try_..` writes what the one without `try_` does, and answers Ok only where
-// all of it came; where it answers Err, or nothing is answered, a beginning, perhaps nothing, may be all that came.
+// write takes no contract can say. A function `try_..` writes what the one without `try_` does, and answers Ok only
+// where all of it came; where it answers Err, or nothing is answered, a beginning, perhaps nothing, may be all that
+// came. The functions without `try_` stay beside those, since they cannot fail.
 #![tactic(auto)]
 
 ghost use Rattle.std.specs.Prelude.{◌≡◌, ◌↔◌, map, length, IsTrue, OnOk};
@@ -105,6 +106,7 @@ pub fn try_fail<E: Write>(errors: &mut E, what: &[u8], error: io::Error) -> io::
     ensures begins { Says (E.contents errors.old) (E.contents errors.new) what.now }
     ensures whole { OnOk result (Tells (E.contents errors.old) (E.contents errors.new) what.now) }
 {
+    // There is no heap, by the project's rule, so room is fixed. The system's texts have some 50 bytes.
     let mut text = io::Cursor::new([0u8; 320]);
     let _ = write!(text, "{error}");
     let n = (text.position() as usize).min(320);

@@ -20,7 +20,8 @@ impl TagSet {
         TagSet { words: [0; 4] }
     }
 
-    // The set of one tag, or of none where the tag is 256 or more.
+    // The set of one tag, or of none where the tag is 256 or more. (No `get_mut`: of the words after it the proof knows
+    // their number alone.)
     pub fn single(tag: u32) -> TagSet
         ensures { result ≡ single_of tag }
     {
@@ -72,7 +73,7 @@ impl TagSet {
         a | b | c | d == 0
     }
 
-    // Whether both sets have the same tags.
+    // Whether both sets have the same tags: `==`, which says so of words.
     pub fn equals(self, other: TagSet) -> bool
         ensures { result ≡ same_of self other }
     {

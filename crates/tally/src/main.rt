@@ -18,7 +18,8 @@ fn main(rt: HostRuntime) {
     let _ = answer(&rt, &mut rt.stdin(), &mut rt.stdout(), &mut rt.stderr());
 }
 
-// Does what the arguments ask for. It answers Ok where a text was printed or a line on standard error was told.
+// Does what the arguments ask for. It answers Ok where a text was printed or a line on standard error was told. (The
+// two writers are no struct, here and below: see `stream`.)
 fn answer<P: Env + Files, R: Read, W: Write, E: Write>(
     rt: &P,
     reader: &mut R,
@@ -121,10 +122,11 @@ fn show_file<P: Files, W: Write, E: Write>(
 
 // Opens the file of this name to be read. std takes a name that is text, so any other is refused.
 fn open<P: Files>(rt: &P, name: &[u8]) -> io::Result<P::File> {
-    match std::str::from_utf8(name) {
-        Ok(name) => File::open(rt, name),
-        Err(_) => Err(io::Error::new(ErrorKind::InvalidFilename, "The name is not UTF-8")),
-    }
+    let name = std::str::from_utf8(name).map_err(|_| io::Error::new(
+        ErrorKind::InvalidFilename,
+        "The name is not UTF-8",
+    ))?;
+    File::open(rt, name)
 }
 
 // Prints the report of the log that comes from `reader`. If a read fails, a line on standard error has `name` and the
@@ -151,7 +153,7 @@ fn show<R: Read, W: Write, E: Write>(
 }
 
 // Puts the report of these bytes, run in a new tracker, at the start of `text`, and answers its length. The text always
-// fits, so the last case is never taken.
+// fits, so it is never refused.
 fn report_of(bytes: &[u8], text: &mut [u8]) -> usize
     requires { 264256 ≤ length text.old }
     ensures prefix_len { IsPrefixLen result text.new }
