@@ -3,30 +3,48 @@
 use Rattle.std.specs.Prelude.{◌≡◌, ◌⊎◌, ◌≢◌, ℕ, ◌+◌, ◌-◌, ◌*◌, ◌≤◌, ◌<◌, min, max}
 use Rattle.std.specs.Prelude.{List, ◌++◌, length, get_or, take, drop}
 use Rattle.std.specs.List.{between}
-use Rattle.std.proofs.Common.{sym, ap, ◌∙◌, inl, inr, ⊎_elim, arith, length-take, get_or-take, get_or-drop}
+use Rattle.std.proofs.Common.{sym, ap, ◌∙◌, subst, inl, inr, ⊎_elim, arith, length-take, get_or-take, get_or-drop}
 use Rattle.std.proofs.lemmas.List.{get_or_append_left, get_or-append_right}
 use Rattle.std.proofs.lemmas.List.Edits.{get_or-between, length-between}
 use Rattle.std.proofs.Math.Logic.{by_cases}
 use Rattle.std.proofs.Math.Decide.{dec_lt, ℕ_discrete}
 use Rattle.state.specs.State.{set_at}
 
--- the sets found are the first n sets of these words, but for the containers from `first` up to `end`
-pub record Found (n first end : ℕ) (found ws : List ℕ) : Type 0 where
-  pub at : (a : ℕ) → a < n → ((first ≤ a) × (a < end)) ⊎ (set_at found a ≡ set_at ws a)
+-- the sets found are the first n sets of these words, but for the containers that are out
+pub record Found (n : ℕ) (Out : ℕ → Type 0) (found ws : List ℕ) : Type 0 where
+  pub at : (a : ℕ) → a < n → Out a ⊎ (set_at found a ≡ set_at ws a)
 
--- where all sets are those of the words, no container is left out
-pub all_found : {n first end : ℕ} {found ws : List ℕ} → ((a : ℕ) → a < n → set_at found a ≡ set_at ws a)
-    → Found n first end found ws
-all_found same = record { at = λ a l. inr (same a l) }
+-- where none is out they are all
+pub found-whole : {n : ℕ} {Out : ℕ → Type 0} {found ws : List ℕ} → ((a : ℕ) → Out a → ⊥) → Found n Out found ws
+    → (a : ℕ) → a < n → set_at found a ≡ set_at ws a
+found-whole none f a l = ⊎_elim (λ w. absurd (none a w)) (λ e. e) (f.at a l)
 
--- the set of one container more has changed
-pub found-more : {n first end : ℕ} {found ws : List ℕ} (b : ℕ) {ws' : List ℕ} → Found n first end found ws
-    → ((a : ℕ) → a ≢ b → set_at ws' a ≡ set_at ws a) → Found n (min first b) (max end (b + 1)) found ws'
-found-more {n} {first} {end} {found} {ws} b f same = record {
+-- and where they are all, none is out
+pub found-all : {n : ℕ} {Out : ℕ → Type 0} {found ws : List ℕ} → ((a : ℕ) → a < n → set_at found a ≡ set_at ws a)
+    → Found n Out found ws
+found-all same = record { at = λ a l. inr (same a l) }
+
+-- the set of one container more has changed, which is out then
+pub found-wider : {n : ℕ} {Out Out' : ℕ → Type 0} {found ws : List ℕ} (b : ℕ) {ws' : List ℕ} → Out' b
+    → ((a : ℕ) → Out a → Out' a) → Found n Out found ws → ((a : ℕ) → a ≢ b → set_at ws' a ≡ set_at ws a)
+    → Found n Out' found ws'
+found-wider {Out' = Out'} b here wider f same = record {
   at = λ a l.
-      by_cases (ℕ_discrete a b) (λ q. inl (omega (arith, q), omega (arith, q)))
-      (λ q. ⊎_elim (λ w. inl (omega (arith, w.0), omega (arith, w.1))) (λ e. inr (e ∙ sym (same a q))) (f.at a l));
+      by_cases (ℕ_discrete a b) (λ q. inl (subst Out' (sym q) here))
+      (λ q. ⊎_elim (λ w. inl (wider a w)) (λ e. inr (e ∙ sym (same a q))) (f.at a l));
 }
+
+-- THE PART FROM ONE CONTAINER UP TO ANOTHER, as a pass keeps it
+
+-- container a is in the part from `first` up to `end`
+abbrev pub Part : ℕ → ℕ → ℕ → Type 0
+Part first end a = (first ≤ a) × (a < end)
+
+-- the part with one container more
+pub part-more : {n first end : ℕ} {found ws : List ℕ} (b : ℕ) {ws' : List ℕ} → Found n (Part first end) found ws
+    → ((a : ℕ) → a ≢ b → set_at ws' a ≡ set_at ws a) → Found n (Part (min first b) (max end (b + 1))) found ws'
+part-more b f same =
+    found-wider b (omega arith, omega arith) (λ a w. (omega (arith, w.0), omega (arith, w.1))) f same
 
 -- the words found with the sets of ws from `first` up to `end`
 abbrev pub copied : ℕ → ℕ → List ℕ → List ℕ → List ℕ
@@ -86,9 +104,9 @@ module _ (first end : ℕ) (ws found : List ℕ) (o : first ≤ end)
       ∙ ap (λ (k : ℕ). get_or found k 0) (omega arith))
 
   -- so all are then those of ws
-  pub found-again : {n : ℕ} → Found n first end found ws → (a : ℕ) → a < n
+  pub found-copied : {n : ℕ} → Found n (Part first end) found ws → (a : ℕ) → a < n
       → set_at (copied first end ws found) a ≡ set_at ws a
-  found-again {n} f a l =
+  found-copied {n} f a l =
       by_cases (dec_lt a first) (λ h. copied-before a h ∙ outside a l (λ w. omega (arith, w.0)))
       (λ h. by_cases (dec_lt a end) (λ g. copied-inside a (omega (arith, h)) g)
       (λ g. copied-after a (omega (arith, g)) ∙ outside a l (λ w. omega (arith, g, w.1))))

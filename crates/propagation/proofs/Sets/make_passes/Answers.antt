@@ -6,7 +6,7 @@ use Rattle.model.specs.declared.Flow.{Flow}
 use Rattle.model.specs.Model.{edges, edges_of}
 use Rattle.state.specs.State.{set_at, no_flow}
 use Rattle.propagation.specs.Exact.{passes-most}
-use Rattle.propagation.specs.Found.{all_found, found-again}
+use Rattle.propagation.specs.Found.{found-all, found-copied}
 use Rattle.propagation.specs.Turns.{Carried, adds-inside, found-carried, carried_none, none_made}
 use Rattle.propagation.proofs.Turns.{carried-fits, flow-carried, gain-fits, one-made, all_made}
 use Rattle.propagation.proofs.Sets.make_passes.Goals as goal
@@ -49,7 +49,7 @@ passes-init c = record {
   place = refl;
   long = c.type_inv.found;
   found = λ a l. ap (λ (x : List ℕ). set_at x a) c.copy_sets.ensures
-      ∙ found-again 0 c.args.self.now.n c.args.self.now.words.now _ (omega arith) (omega arith) (omega arith)
+      ∙ found-copied 0 c.args.self.now.n c.args.self.now.words.now _ (omega arith) (omega arith) (omega arith)
       (record { at = λ b h. inl (omega arith, h) }) a l;
   made = none_made _ _ _;
 }
@@ -60,7 +60,7 @@ loop-flow-init c = record {
   place = refl;
   within = omega arith;
   some = λ h. omega arith;
-  found = all_found c.passes.invariant.found;
+  found = found-all c.passes.invariant.found;
   carried = carried_none _ _ _;
 }
 
@@ -122,7 +122,7 @@ passes-preserved c =
     let some = c.loop-flow.invariant.some (omega arith) in
     let n = c.loop-flow.invariant.same in
     let again =
-    found-again c.loop-flow.first c.loop-flow.end c.loop-flow.self.words.now c.passes.found (omega arith)
+    found-copied c.loop-flow.first c.loop-flow.end c.loop-flow.self.words.now c.passes.found (omega arith)
     (omega (arith, n)) (omega (arith, n, c.passes.invariant.long)) c.loop-flow.invariant.found in record {
       same = n;
       place = c.loop-flow.invariant.place ∙ c.passes.invariant.place;

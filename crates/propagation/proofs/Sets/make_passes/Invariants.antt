@@ -5,7 +5,7 @@ use Rattle.std.proofs.Common.{◌≡◌, ℕ, ◌-◌, ◌≤◌, ◌<◌, take,
 use Rattle.model.specs.Model.{edges_of}
 use Rattle.state.specs.State.{set_at}
 use Rattle.propagation.specs.Pass.{passes_of}
-use Rattle.propagation.specs.Found.{Found}
+use Rattle.propagation.specs.Found.{Found, Part}
 use Rattle.propagation.specs.Turns.{Carried, Underway}
 use Rattle.propagation.proofs.Sets.make_passes.Given as goal
 
@@ -15,7 +15,7 @@ invariant-loop-flow l = record {
   place : l.self.words.ghost_name ≡ l.initial.self.words.ghost_name;
   within : l.end ≤ l.n;
   some : 0 < l.added → l.first < l.end;
-  found : Found l.n l.first l.end l.found l.self.words.now;
+  found : Found l.n (Part l.first l.end) l.found l.self.words.now;
   carried : Carried l.n l.initial.self.words.now (edges_of (take l.flow-index l.flows)) l.initial.self.words.now
       l.self.words.now l.added;
 }
