@@ -6,7 +6,6 @@ ghost use Rattle.std.specs.Prelude.{◌≡◌, ℕ, ◌<◌, ◌≤◌, ◌%◌,
 pub mod print;
 
 use arrayvec::ArrayVec;
-use std::str;
 use tagset::TagSet;
 
 // A line: its word, and the numbers behind it, at most 64.
@@ -69,11 +68,19 @@ impl Line<'_> {
     }
 }
 
-// The number of these digits, 0 where they are none of 64 bits.
+// The number of these digits modulo 2 ^ 64. A byte below `0` ends it, and one past `9` counts as how far it is behind `0`,
+// modulo 10.
 fn number_of(digits: &[u8]) -> u64
     ensures { (n : ℕ) → n < 2 ^ 64 → digits.now ≡ decimal n → result ≡ n }
 {
-    str::from_utf8(digits).map_or(0, |text| text.parse().unwrap_or(0))
+    let mut value: u64 = 0;
+    for byte in digits {
+        let Some(digit) = byte.checked_sub(b'0') else {
+            break;
+        };
+        value = value.wrapping_mul(10).wrapping_add(u64::from(digit % 10));
+    }
+    value
 }
 
 // The i-th of these numbers modulo 2 ^ 32, 0 past the last.
