@@ -1,7 +1,9 @@
 // Lines of a script, and what is printed of them. A line is a word, and behind it numbers with single spaces between them.
 #![tactic(auto)]
 
-ghost use Rattle.std.specs.Prelude.{◌≡◌, ℕ, ◌<◌, ◌≤◌, ◌%◌, ◌^◌, ltb, length, get_or, drop, is_none, decimal};
+ghost use Rattle.std.specs.Prelude.{◌≡◌, ℕ, ◌<◌, ◌≤◌, ◌%◌, ◌^◌, ◌&&◌, ltb, eqb, length, get_or, drop, is_none, decimal};
+ghost use Rattle.std.specs.List.{before_first, list_any};
+ghost use Rattle.tagset.specs.Set.{has};
 
 pub mod print;
 
@@ -17,7 +19,9 @@ pub struct Line<'a> {
 
 impl Line<'_> {
     // Takes a line apart. Numbers past the 64th are left out.
-    pub fn of(text: &[u8]) -> Line<'_> {
+    pub fn of(text: &[u8]) -> Line<'_>
+        ensures { result.word.now ≡ before_first (λ byte. eqb byte 32) text.now }
+    {
         let mut words = text.split(|byte| *byte == b' ');
         let word = words.next().unwrap_or(&[]);
         let mut numbers = ArrayVec::new();
@@ -91,7 +95,9 @@ pub fn small(numbers: &[u64], i: usize) -> u32
 }
 
 // The set of these tags.
-pub fn set_of(tags: &[u64]) -> TagSet {
+pub fn set_of(tags: &[u64]) -> TagSet
+    ensures { (t : ℕ) → has result t ≡ (ltb t 256 && list_any (λ tag. eqb t (tag % 4294967296)) tags.now) }
+{
     let mut set = TagSet::empty();
     for tag in tags {
         set = set.union(TagSet::single((*tag % 4294967296) as u32));

@@ -1,7 +1,9 @@
 // Bytes, numbers, sets and answers, as a script prints them.
-ghost use Rattle.std.specs.Prelude.{◌≡◌, ◌++◌, [], Some, codes, cond, decimal, filter, fold};
+ghost use Rattle.std.specs.Prelude.{◌≡◌, ◌++◌, [], Some, IfSome, IfOk, IfErr, OnOk, codes, cond, decimal, filter, fold};
 ghost use Rattle.std.specs.List.{flat_map, range_with_len};
 ghost use Rattle.std.specs.Fmt.{◌++?◌};
+ghost use Rattle.std.specs.Io.KnownBytes.{Appends};
+ghost use Rattle.refusal.specs.Number.{number_of};
 ghost use Rattle.tagset.specs.Set.{has};
 
 use refusal::Refusal;
@@ -55,7 +57,13 @@ pub fn yes(b: bool) -> &'static str
 pub fn read<W: Write, T: Display + Drop>(
     out: &mut W,
     reply: Result<(T, usize), Refusal>,
-) -> io::Result<()> {
+) -> io::Result<()>
+    ensures read { OnOk result (IfOk reply (λ come. IfSome
+        (Some (codes ": ") ++? (T.output come.0 ++? Some (codes ", next " ++ decimal come.1)))
+        (Appends (W.contents out.old) (W.contents out.new)))) }
+    ensures refused { OnOk result (IfErr reply (λ refusal.
+        Appends (W.contents out.old) (W.contents out.new) (codes ": refused " ++ decimal (number_of refusal)))) }
+{
     match reply {
         Ok((value, next)) => write!(out, ": {value}, next {next}"),
         Err(refusal) => write!(out, ": refused {refusal}"),
@@ -63,11 +71,15 @@ pub fn read<W: Write, T: Display + Drop>(
 }
 
 // Writes what writing answers, and what it leaves.
-pub fn written<W: Write>(
-    out: &mut W,
-    reply: Result<usize, Refusal>,
-    left: &[u8],
-) -> io::Result<()> {
+pub fn written<W: Write>(out: &mut W, reply: Result<usize, Refusal>, left: &[u8]) -> io::Result<()>
+    ensures next { OnOk result (IfOk reply (λ next.
+        Appends (W.contents out.old) (W.contents out.new)
+        (codes ": next " ++ (decimal next ++ (codes ", leaves" ++ flat_map (λ b. codes " " ++ decimal b) left.now))))) }
+    ensures refused { OnOk result (IfErr reply (λ refusal.
+        Appends (W.contents out.old) (W.contents out.new)
+        (codes ": refused " ++ (decimal (number_of refusal)
+        ++ (codes ", leaves" ++ flat_map (λ b. codes " " ++ decimal b) left.now))))) }
+{
     let left = Spaced(left);
     match reply {
         Ok(next) => write!(out, ": next {next}, leaves{left}"),
