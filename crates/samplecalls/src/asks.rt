@@ -1,4 +1,7 @@
 // Questions, the ranking, and what is stored.
+ghost use Rattle.std.specs.Prelude.{◌++◌, OnOk, codes, decimal};
+ghost use Rattle.std.specs.Io.KnownBytes.{Appends};
+
 use crate::print::{FlowText, HeaderText};
 use model::Flow;
 use sampleline::Line;
@@ -63,6 +66,9 @@ pub fn list<W: Write>(out: &mut W, header: Header, flows: &[Flow]) -> io::Result
 }
 
 // `now`: the header.
-pub fn now<W: Write>(out: &mut W, now: Header) -> io::Result<()> {
+pub fn now<W: Write>(out: &mut W, now: Header) -> io::Result<()>
+    ensures { OnOk result (Appends (W.contents out.old) (W.contents out.new) (codes ": n " ++ (decimal now.containers
+        ++ (codes ", flows " ++ (decimal now.count ++ (codes ", greatest " ++ decimal now.greatest)))))) }
+{
     write!(out, ": {}", HeaderText(now))
 }

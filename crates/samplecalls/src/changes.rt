@@ -1,5 +1,7 @@
 // The calls that change a tracker.
-ghost use Rattle.std.specs.Prelude.{◌≡◌, ◌%◌, get_or};
+ghost use Rattle.std.specs.Prelude.{◌≡◌, ◌++◌, ◌%◌, IfOk, IfErr, OnErr, OnOk, codes, decimal, get_or};
+ghost use Rattle.std.specs.Io.KnownBytes.{Appends};
+ghost use Rattle.refusal.specs.Number.{number_of};
 
 use crate::print::HeaderText;
 use crate::storage::Storage;
@@ -110,7 +112,14 @@ pub fn told<W: Write>(
     out: &mut W,
     header: &mut Header,
     reply: Result<Accepted, Refusal>,
-) -> io::Result<()> {
+) -> io::Result<()>
+    ensures header { IfOk reply (λ accepted. header.new ≡ accepted.header) }
+    ensures kept { OnErr reply (header.new ≡ header.old) }
+    ensures accepted { OnOk result (IfOk reply (λ accepted.
+        Appends (W.contents out.old) (W.contents out.new) (codes ": accepted, gain " ++ decimal accepted.gain))) }
+    ensures refused { OnOk result (IfErr reply (λ refusal.
+        Appends (W.contents out.old) (W.contents out.new) (codes ": refused " ++ decimal (number_of refusal)))) }
+{
     match reply {
         Ok(accepted) => {
             *header = accepted.header;
