@@ -1,5 +1,9 @@
 // Questions, the ranking, and what is stored.
-ghost use Rattle.std.specs.Prelude.{◌++◌, OnOk, codes, decimal};
+ghost use Rattle.std.specs.Prelude.{◌++◌, ◌%◌, OnOk, codes, cond, decimal, eqb, filter, get_or};
+ghost use Rattle.std.specs.List.{flat_map, range_with_len};
+ghost use Rattle.question.specs.Question.{tags_of, size_asked, legal_of};
+ghost use Rattle.state.specs.State.{state_in};
+ghost use Rattle.tagset.specs.Set.{has};
 ghost use Rattle.std.specs.Io.KnownBytes.{Appends};
 
 use crate::print::{FlowText, HeaderText};
@@ -11,7 +15,13 @@ use std::io;
 use std::io::Write;
 
 // `set C`: the container's set.
-pub fn set<W: Write>(out: &mut W, line: &Line, tracker: &Tracker) -> io::Result<()> {
+pub fn set<W: Write>(out: &mut W, line: &Line, tracker: &Tracker) -> io::Result<()>
+    ensures { let asked = tags_of (state_in tracker.now) (get_or line.now.numbers.items 0 0 % 4294967296) in
+        OnOk result (Appends (W.contents out.old) (W.contents out.new)
+        (cond (eqb asked.refusal 0)
+        (codes ":" ++ flat_map (λ tag. codes " " ++ decimal tag) (filter (has asked.value) (range_with_len 0 256)))
+        (codes ": refused " ++ decimal asked.refusal))) }
+{
     match question::tags_of(tracker, line.small(0)) {
         Ok(set) => write!(out, ":{}", Tags(set)),
         Err(refusal) => write!(out, ": refused {refusal}"),
@@ -19,7 +29,13 @@ pub fn set<W: Write>(out: &mut W, line: &Line, tracker: &Tracker) -> io::Result<
 }
 
 // `size C`: how many tags it has.
-pub fn size<W: Write>(out: &mut W, line: &Line, tracker: &Tracker) -> io::Result<()> {
+pub fn size<W: Write>(out: &mut W, line: &Line, tracker: &Tracker) -> io::Result<()>
+    ensures { let asked = size_asked (state_in tracker.now) (get_or line.now.numbers.items 0 0 % 4294967296) in
+        OnOk result (Appends (W.contents out.old) (W.contents out.new)
+        (cond (eqb asked.refusal 0)
+        (codes ": " ++ decimal asked.value)
+        (codes ": refused " ++ decimal asked.refusal))) }
+{
     match question::size_of(tracker, line.small(0)) {
         Ok(size) => write!(out, ": {size}"),
         Err(refusal) => write!(out, ": refused {refusal}"),
@@ -27,7 +43,13 @@ pub fn size<W: Write>(out: &mut W, line: &Line, tracker: &Tracker) -> io::Result
 }
 
 // `legal C`: whether it may be sent.
-pub fn legal<W: Write>(out: &mut W, line: &Line, tracker: &Tracker) -> io::Result<()> {
+pub fn legal<W: Write>(out: &mut W, line: &Line, tracker: &Tracker) -> io::Result<()>
+    ensures { let asked = legal_of (state_in tracker.now) (get_or line.now.numbers.items 0 0 % 4294967296) in
+        OnOk result (Appends (W.contents out.old) (W.contents out.new)
+        (cond (eqb asked.refusal 0)
+        (codes ": " ++ cond asked.value (codes "yes") (codes "no"))
+        (codes ": refused " ++ decimal asked.refusal))) }
+{
     match question::is_legal(tracker, line.small(0)) {
         Ok(legal) => write!(out, ": {}", yes(legal)),
         Err(refusal) => write!(out, ": refused {refusal}"),
