@@ -1,8 +1,8 @@
 // Lines of a script, and what is printed of them. A line is a word, and behind it numbers with single spaces between them.
 #![tactic(auto)]
 
-ghost use Rattle.std.specs.Prelude.{◌≡◌, ℕ, ◌<◌, ◌≤◌, ◌%◌, ◌^◌, ◌&&◌, ltb, eqb, length, get_or, drop, is_none, decimal};
-ghost use Rattle.std.specs.List.{before_first, list_any};
+ghost use Rattle.std.specs.Prelude.{◌≡◌, ℕ, ◌+◌, ◌-◌, ◌%◌, ◌^◌, ◌<◌, ◌≤◌, ◌&&◌, [], min, ltb, eqb, length, get_or, drop, is_none, decimal};
+ghost use Rattle.std.specs.List.{before_first, list_any, slice_split};
 ghost use Rattle.tagset.specs.Set.{has};
 
 pub mod print;
@@ -20,7 +20,11 @@ pub struct Line<'a> {
 impl Line<'_> {
     // Takes a line apart. Numbers past the 64th are left out.
     pub fn of(text: &[u8]) -> Line<'_>
-        ensures { result.word.now ≡ before_first (λ byte. eqb byte 32) text.now }
+        ensures word { result.word.now ≡ before_first (λ byte. eqb byte 32) text.now }
+        ensures count { length result.numbers.items ≡ min 64 (length (slice_split (λ byte. eqb byte 32) text.now) - 1) }
+        ensures numbers { (i n : ℕ) → i < length result.numbers.items → n < 2 ^ 64
+            → get_or (slice_split (λ byte. eqb byte 32) text.now) (i + 1) [] ≡ decimal n
+            → get_or result.numbers.items i 0 ≡ n }
     {
         let mut words = text.split(|byte| *byte == b' ');
         let word = words.next().unwrap_or(&[]);
