@@ -76,8 +76,8 @@ impl Line<'_> {
     }
 }
 
-// The number of these digits modulo 2 ^ 64. A byte below `0` ends it, and one past `9` counts as how far it is behind `0`,
-// modulo 10.
+// The number of these digits modulo 2 ^ 64. A byte below `0` ends it, and one past `9` counts as how far it is behind
+// `0`, modulo 10.
 fn number_of(digits: &[u8]) -> u64
     ensures { (n : ℕ) → n < 2 ^ 64 → digits.now ≡ decimal n → result ≡ n }
 {
