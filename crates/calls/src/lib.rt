@@ -38,9 +38,9 @@ pub fn start(
         return Err(Refusal::BadSize);
     }
     tagstore::store_own_tags(tags, n);
-    tagstore::clear(policies, 16 * (n as usize), 0);
-    tagstore::clear(counts, n as usize, 0);
-    tagstore::clear(flows, 512, Flow::NONE);
+    policies[..16 * (n as usize)].fill(0);
+    counts[..n as usize].fill(0);
+    flows[..512].fill(Flow::NONE);
     Ok(Accepted {
         header: Header {
             containers: n,

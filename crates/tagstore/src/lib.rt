@@ -1,11 +1,11 @@
-// Tag sets in lent words, four words a set: a set read, a set written, and what starting writes.
+// Tag sets in lent words, four words a set: a set read, a set written, and the own tags that starting writes.
 // Every function answers for any number of words: out of range it reads the empty set, and writes nothing.
 #![tactic(auto)]
 
 ghost use Rattle.std.specs.Prelude.{◌≡◌, ◌/◌, min, length};
 ghost use Rattle.tagset.specs.Set.{single_of};
 ghost use Rattle.state.specs.State.{with_sets};
-ghost use Rattle.tagstore.specs.Store.{load_of, store_of, filled_front};
+ghost use Rattle.tagstore.specs.Store.{load_of, store_of};
 
 use tagset::TagSet;
 
@@ -41,16 +41,5 @@ pub fn store_own_tags(words: &mut [u64], n: u32)
     let sets = words.len() / 4;
     for c in 0..sets.min(n as usize) {
         store_set(words, c, TagSet::single(c as u32));
-    }
-}
-
-// Writes the value over the first m elements, or over all.
-// One by one, since the library's `fill` requires that cloning the value cannot fail, which not every type says.
-pub fn clear<T: Copy>(list: &mut [T], m: usize, zero: T)
-    ensures { list.new ≡ filled_front zero m list.old }
-{
-    let end = m.min(list.len());
-    for place in list[..end].iter_mut() {
-        *place = zero;
     }
 }
