@@ -1,3 +1,4 @@
+pub mod Fours
 pub mod IsValid
 pub mod Judging
 pub mod LayoutLaws

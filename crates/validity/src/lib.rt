@@ -107,9 +107,8 @@ fn set_at(words: &[u64], k: usize) -> TagSet
     requires { 4 * k + 4 ≤ length words.now }
     ensures { result ≡ set_at words.now k }
 {
-    let b = 4 * k;
     TagSet {
-        words: [words[b], words[b + 1], words[b + 2], words[b + 3]],
+        words: words.as_chunks().0[k],
     }
 }
 
