@@ -4,3 +4,4 @@ pub mod Steps
 pub mod Begin
 pub mod Laws
 pub mod Joins
+pub mod Running
