@@ -140,7 +140,7 @@ pub fn apply_enable(
         return Err(Refusal::TableFull);
     }
     let count = header.count + 1;
-    flowtable::append(flows, header.count as usize, flow);
+    flowtable::put(flows, header.count as usize, flow);
     let end = flows.len().min(count as usize);
     let made = propagation::propagate(tags, header.containers, &flows[..end]);
     Ok(Accepted {

@@ -1,4 +1,4 @@
-// The table of enabled flows, in place: find, append, remove. Every function answers for any length, place and content.
+// The table of enabled flows, in place: find, put, remove. Every function answers for any length, place and content.
 #![tactic(auto)]
 
 ghost use Rattle.std.specs.Prelude.{◌≡◌, length, set};
@@ -13,13 +13,13 @@ pub fn find(flows: &[Flow], number: u32) -> Option<usize>
     flows.iter().position(|flow| flow.number == number)
 }
 
-// Puts the flow behind the first `count` records; changes nothing where there is no place left.
-pub fn append(flows: &mut [Flow], count: usize, flow: Flow)
-    ensures { flows.new ≡ set flows.old count flow }
+// Puts the value in this place; changes nothing where there is none.
+pub fn put<T: Copy>(list: &mut [T], place: usize, value: T)
+    ensures { list.new ≡ set list.old place value }
 {
-    // No get_mut and no split_at_mut_checked: of the flows after either the proof knows the length alone.
-    if count < flows.len() {
-        flows[count] = flow;
+    // No get_mut and no split_at_mut_checked: of the list after either the proof knows the length alone.
+    if place < list.len() {
+        list[place] = value;
     }
 }
 

@@ -1,22 +1,10 @@
-// What is written past the calls: words, counts, records and headers of the script's own, and a single step of an execution.
-ghost use Rattle.std.specs.Prelude.{◌≡◌, ◌%◌, get_or, set};
+// What is written past the calls: headers of the script's own, and a single step of an execution.
+ghost use Rattle.std.specs.Prelude.{◌≡◌, ◌%◌, get_or};
 ghost use Rattle.tagset.specs.Set.{union_of};
 ghost use Rattle.tagstore.specs.Store.{load_of, store_of};
 
 use sampleline::Line;
 use state::Header;
-
-// `word I V` and `policy I V`: a word of the tag sets, or of the policy sets; `count C V`: how many policy sets a container has;
-// `flow I K F T`: a record of the flow table.
-pub fn put<T: Copy>(list: &mut [T], i: u64, value: T)
-    ensures { list.new ≡ set list.old i value }
-{
-    let i = i as usize;
-    // No `get_mut`: of the list after it the proof knows the length alone.
-    if i < list.len() {
-        list[i] = value;
-    }
-}
 
 // `header N C G`: the header.
 pub fn header(line: &Line) -> Header

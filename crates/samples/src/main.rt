@@ -52,11 +52,15 @@ fn run<W: Write>(out: &mut W, script: &[u8]) -> io::Result<()> {
     Ok(())
 }
 
-// Does what a line says with so much of each list. `flow`, `list` and what the runs of `tally` leave go by 512 records of
-// the flow table, however many are lent.
+// Does what a line says with so much of each list. `flow I K F T`, a record of the flow table, `list` and what the runs
+// of `tally` leave go by 512 records of the table, however many are lent.
 fn lend<W: Write>(out: &mut W, line: &Line, room: Room, whole: &mut Storage) -> io::Result<()> {
     match line.word {
-        b"flow" => Ok(pokes::put(front(whole.flows, 512), line.get(0), flow_of(line.from(1)))),
+        b"flow" => Ok(flowtable::put(
+            front(whole.flows, 512),
+            line.get(0) as usize,
+            flow_of(line.from(1)),
+        )),
         b"list" => asks::list(out, *whole.header, front(whole.flows, 512)),
         _ => {
             let records = match line.word {
@@ -121,7 +125,8 @@ fn first_byte(word: &[u8]) -> usize {
     }
 }
 
-// Does what a line says. The words that change the tracker, or write past the calls.
+// Does what a line says. The words that change the tracker, or write past the calls: `word I V` and `policy I V` a word
+// of the tag sets, or of the policy sets, and `count C V` how many policy sets a container has.
 fn change<W: Write>(
     out: &mut W,
     line: &Line,
@@ -135,9 +140,13 @@ fn change<W: Write>(
         b"add" => changes::add(out, line, storage),
         b"fill" => Ok(changes::fill(line, storage)),
         b"header" => Ok(*storage.header = pokes::header(line)),
-        b"word" => Ok(pokes::put(storage.tags, line.get(0), line.get(1))),
-        b"policy" => Ok(pokes::put(storage.policies, line.get(0), line.get(1))),
-        b"count" => Ok(pokes::put(storage.counts, line.get(0), (line.get(1) % 256) as u8)),
+        b"word" => Ok(flowtable::put(storage.tags, line.get(0) as usize, line.get(1))),
+        b"policy" => Ok(flowtable::put(storage.policies, line.get(0) as usize, line.get(1))),
+        b"count" => Ok(flowtable::put(
+            storage.counts,
+            line.get(0) as usize,
+            (line.get(1) % 256) as u8,
+        )),
         b"exec" => Ok(pokes::exec(line, storage.tags)),
         b"replay" => runs::replay_log(out, bytes, storage),
         b"lent" => samplelent::lent(out, line, bytes, storage),
