@@ -1,8 +1,9 @@
 // What the script's lines work on: a header, and the part of each list that is lent.
-ghost use Rattle.std.specs.Prelude.{◌≡◌, ◌&&◌, leb, take};
+ghost use Rattle.std.specs.Prelude.{◌≡◌, ◌+◌, ◌&&◌, get_or, leb, take};
 ghost use Rattle.state.specs.State.{state_in, storage_of};
 
 use model::Flow;
+use sampleline::Line;
 use state::{Header, Tracker};
 
 // How much of each list is lent to the calls: words of tags, words of policy sets, counts and records of the flow table.
@@ -28,6 +29,23 @@ impl Room {
         flows: 512,
         ..Room::MOST
     };
+
+    // What the numbers of a line say from the i-th on.
+    pub fn of(line: &Line, i: usize) -> Room
+        ensures tags { result.tags ≡ get_or line.now.numbers.items i 0 }
+        ensures policies { result.policies ≡ get_or line.now.numbers.items (i + 1) 0 }
+        ensures counts { result.counts ≡ get_or line.now.numbers.items (i + 2) 0 }
+        ensures flows { result.flows ≡ get_or line.now.numbers.items (i + 3) 0 }
+    {
+        let numbers = line.from(i);
+        let number = |k: usize| numbers.get(k).copied().unwrap_or(0) as usize;
+        Room {
+            tags: number(0),
+            policies: number(1),
+            counts: number(2),
+            flows: number(3),
+        }
+    }
 
     // Whether there is so much of each list.
     pub fn is_there(self) -> bool

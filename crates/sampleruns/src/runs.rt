@@ -1,7 +1,7 @@
 // Replays and texts in the script's tracker.
 use report::Tallied;
 use samplecalls::print::HeaderText;
-use samplecalls::storage::Storage;
+use samplecalls::storage::{Room, Storage};
 use sampleline::Line;
 use sampleline::print::{read, written};
 use std::io;
@@ -9,13 +9,10 @@ use std::io::Write;
 
 // `judge T P C F B..`: n of a log, in lists of these lengths.
 pub fn judge<W: Write>(out: &mut W, line: &Line, bytes: &[u8]) -> io::Result<()> {
-    let tags = line.get(0) as usize;
-    let policies = line.get(1) as usize;
-    let counts = line.get(2) as usize;
-    let flows = line.get(3) as usize;
+    let room = Room::of(line, 0);
     read(
         out,
-        replay::read_containers(bytes, tags, policies, counts, flows),
+        replay::read_containers(bytes, room.tags, room.policies, room.counts, room.flows),
     )
 }
 

@@ -85,12 +85,7 @@ fn room_after<W: Write>(out: &mut W, line: &Line, room: Room) -> io::Result<Room
     if line.word != b"room".as_slice() {
         return Ok(room);
     }
-    let asked = Room {
-        tags: line.get(0) as usize,
-        policies: line.get(1) as usize,
-        counts: line.get(2) as usize,
-        flows: line.get(3) as usize,
-    };
+    let asked = Room::of(line, 0);
     if asked.is_there() {
         return Ok(asked);
     }
