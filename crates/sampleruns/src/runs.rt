@@ -1,5 +1,5 @@
 // Replays and texts in the script's tracker.
-use report::Tallied;
+use refusal::Refusal;
 use samplecalls::print::HeaderText;
 use samplecalls::storage::{Room, Storage};
 use sampleline::Line;
@@ -34,19 +34,13 @@ pub fn replay_log<W: Write>(out: &mut W, bytes: &[u8], storage: &mut Storage) ->
     write!(out, ", events {}, gain {}, {header}", run.events, run.gain)
 }
 
-// `tally B..`: the whole text, on lines of its own without its last newline, or only how long it is where that is above 512.
+// `tally B..`: the whole text, on lines of its own without its last newline, or only how long it is where that is above
+// 512.
 pub fn tally<W: Write>(out: &mut W, bytes: &[u8], storage: &mut Storage) -> io::Result<()> {
     let mut text = [0u8; 264256];
-    let done = report::tally(
-        bytes,
-        storage.tags,
-        storage.policies,
-        storage.counts,
-        &mut text,
-    );
-    keep(&done, storage);
+    let reply = run(bytes, &mut text, storage);
     out.write_all(b":")?;
-    match done.reply {
+    match reply {
         Ok(length) if 512 < length => write!(out, " {length} bytes of text"),
         Ok(length) => {
             let whole = text.get(..length).unwrap_or(&[]);
@@ -66,21 +60,17 @@ pub fn short<W: Write>(
 ) -> io::Result<()> {
     let n = (line.get(0) % 65) as usize;
     let mut text = [7u8; 64];
-    let done = report::tally(
-        bytes,
-        storage.tags,
-        storage.policies,
-        storage.counts,
-        &mut text[..n],
-    );
-    keep(&done, storage);
-    written(out, done.reply, &text[..n])
+    let reply = run(bytes, &mut text[..n], storage);
+    written(out, reply, &text[..n])
 }
 
-// Keeps the header and the flow table that a run of `tally` left: it has a table of its own.
-fn keep(done: &Tallied, storage: &mut Storage) {
+// What a run of `tally` into `out` answers. The header and the flow table that it leaves are kept: it has a table of its
+// own.
+fn run(bytes: &[u8], out: &mut [u8], storage: &mut Storage) -> Result<usize, Refusal> {
+    let done = report::tally(bytes, storage.tags, storage.policies, storage.counts, out);
     *storage.header = done.header;
     for (place, flow) in storage.flows.iter_mut().zip(done.flows.iter()) {
         *place = *flow;
     }
+    done.reply
 }
