@@ -1,7 +1,8 @@
-// Lines of a script, and what is printed of them. A line is a word, and behind it numbers with single spaces between them.
+// Lines of a script, and what is printed of them. A line is a word, and behind it numbers with single spaces between
+// them.
 #![tactic(auto)]
 
-ghost use Rattle.std.specs.Prelude.{◌≡◌, ℕ, ◌+◌, ◌-◌, ◌%◌, ◌^◌, ◌<◌, ◌≤◌, ◌&&◌, [], min, ltb, eqb, length, get_or, drop, is_none, decimal};
+ghost use Rattle.std.specs.Prelude.{◌≡◌, ℕ, ◌+◌, ◌-◌, ◌%◌, ◌^◌, ◌<◌, ◌&&◌, [], min, ltb, eqb, length, get_or, drop, map, is_none, IfSome, decimal};
 ghost use Rattle.std.specs.List.{before_first, list_any, slice_split};
 ghost use Rattle.tagset.specs.Set.{has};
 
@@ -35,13 +36,6 @@ impl Line<'_> {
         Line { word, numbers }
     }
 
-    // How many numbers there are.
-    pub fn count(&self) -> usize
-        ensures { result ≤ 64 }
-    {
-        self.numbers.len()
-    }
-
     // The i-th number, 0 past the last.
     pub fn get(&self, i: usize) -> u64
         ensures { result ≡ get_or self.now.numbers.items i 0 }
@@ -65,7 +59,8 @@ impl Line<'_> {
 
     // The numbers from the i-th on as bytes, or nothing where there are not so many.
     pub fn bytes(&self, i: usize) -> Option<ArrayVec<u8, 64>>
-        ensures { is_none result ≡ ltb (length self.now.numbers.items) i }
+        ensures none { is_none result ≡ ltb (length self.now.numbers.items) i }
+        ensures bytes { IfSome result (λ bytes. bytes.items ≡ map (λ n. n % 256) (drop i self.now.numbers.items)) }
     {
         let numbers = self.numbers.get(i..)?;
         let mut bytes = ArrayVec::new();

@@ -1,4 +1,5 @@
--- The parts of a split come one by one: the first is the word, and of each other the number is kept while there is room.
+-- The parts of a split come one by one: the first is the word, and of each other the number is kept while there is
+-- room.
 use Rattle.std.proofs.Common.{rules, ◌≡◌, ℕ, ◌+◌, ◌<◌, Bool, false, eqb, List, [], ◌∷◌, ◌++◌, length, get_or, drop, Option, None, Some, Result, Ok, Err, IsOk, OnOk, OnErr, ◌↔◌, refl, ap, subst, ◌∙◌, arith, Bor, length-append, length-drop}
 use Rattle.std.specs.List.{before_first, slice_split, position_or_len}
 use Rattle.std.specs.Option.{unwrap_or}
