@@ -13,19 +13,31 @@ use tracker::{Accepted, Header, Refusal};
 // Replays a log, and enables a flow after it.
 pub fn go_on(
     bytes: &[u8],
-    tags: &mut [u64],
-    policies: &mut [u64],
-    counts: &mut [u8],
+    storage: &mut Storage,
     content: Flow,
     flow: Flow,
 ) -> (Header, Result<Accepted, Refusal>) {
     let mut table = [content; 513];
-    let run = tracker::replay(bytes, tags, policies, counts, &mut table);
-    let reply = tracker::enable(run.header, tags, policies, counts, &mut table, flow);
+    let run = tracker::replay(
+        bytes,
+        storage.tags,
+        storage.policies,
+        storage.counts,
+        &mut table,
+    );
+    let reply = tracker::enable(
+        run.header,
+        storage.tags,
+        &mut *storage.policies,
+        &mut *storage.counts,
+        &mut table,
+        flow,
+    );
     (run.header, reply)
 }
 
-// `lent K F T B..`: a log replayed and a flow enabled after it by the public calls, on a lent table of other content. The script's header and table stay.
+// `lent K F T B..`: a log replayed and a flow enabled after it by the public calls, on a lent table of other content. The
+// script's header and table stay.
 pub fn lent<W: Write>(
     out: &mut W,
     line: &Line,
@@ -38,14 +50,7 @@ pub fn lent<W: Write>(
         to: 9,
     };
     let flow = flow_of(line.from(0));
-    let (mut after, reply) = go_on(
-        bytes,
-        storage.tags,
-        storage.policies,
-        storage.counts,
-        content,
-        flow,
-    );
+    let (mut after, reply) = go_on(bytes, storage, content, flow);
     told(out, &mut after, reply)?;
     write!(out, ", {}", HeaderText(after))
 }
