@@ -1,7 +1,7 @@
 // Starting, enabling, disabling and adding a policy set, in storage that is lent. What each answers and leaves stands
 // in outcome/specs/Outcome.antt. Replay goes by `apply_enable` and `apply_disable`, which do not judge the state.
-// A call takes the four lists one by one and no struct of them, since it says by `&` or `&mut` which it may change, as its
-// C function does.
+// A call takes the four lists one by one and no struct of them, since it says by `&` or `&mut` which it may change, as
+// its C function does.
 #![tactic(auto)]
 
 ghost use Rattle.std.specs.Prelude.{◌≡◌, List, ℕ, ◌*◌, ◌≤◌, length};

@@ -322,9 +322,9 @@ use mathlib.Mathlib.Logic.Relation.{ReflTransGenᴰ}
 use Rattle.std.specs.Int.Count.{ones}
 use Rattle.truth.specs.Truth.{iff}
 use Rattle.refusal.specs.declared.Refusal.{Refusal}
-use Rattle.refusal.specs.Number.{refusal_of}
+use Rattle.refusal.specs.Number.{number_of, refusal_of}
 use Rattle.refusal.specs.Order.{first_of}
-use Rattle.refusal.proofs.Number.{refusal-injective}
+use Rattle.refusal.proofs.Number.{number-injective, refusal-injective}
 use Rattle.refusal.proofs.Order.{IsFirst}
 use Rattle.leb128.specs.Answer.{refused, reading_of, wrote, unwritten, writing_of}
 use Rattle.leb128.specs.Number.{IsBytes, overwrite, write_at}
@@ -1073,6 +1073,7 @@ pub the-numbers-tell-answers-apart :
     × ((q r : Result (Unit {0}) Refusal) → refusal_of q ≡ refusal_of r → q ≡ r)
     × ((q r : Result (ℕ × ℕ) Refusal) → reading_of q ≡ reading_of r → q ≡ r)
     × ((q r : Option Stop) → refusal_at q ≡ refusal_at r → byte_at q ≡ byte_at r → q ≡ r)
+    × ((q r : Refusal) → number_of q ≡ number_of r → q ≡ r)
     × ((q r : Result ℕ Refusal) → writing_of q ≡ writing_of r → q ≡ r)
 the-numbers-tell-answers-apart = (
   asked-injective empty_set,
@@ -1081,6 +1082,7 @@ the-numbers-tell-answers-apart = (
   refusal-injective,
   reading-injective,
   stop-injective,
+  number-injective,
   writing-injective,
 )
 

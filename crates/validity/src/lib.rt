@@ -1,4 +1,5 @@
-// Whether a state can be used: storage long enough (refusal 9), content valid (refusal 12). Every other refusal comes after these two.
+// Whether a state can be used: storage long enough (refusal 9), content valid (refusal 12). Every other refusal comes
+// after these two.
 #![tactic(auto)]
 
 ghost use Rattle.std.specs.Prelude.{◌≡◌, cond, ltb, ◌+◌, ◌*◌, ◌≤◌, length};
@@ -44,7 +45,8 @@ pub fn bad_size(n: u32, tags: usize, policies: usize, counts: usize, flows: usiz
     (n == 0) | (256 < n) | (tags < 4 * m) | (policies < 16 * m) | (counts < m) | (flows < 512)
 }
 
-// Whether the state is valid. Each word, count and record is read once, and a tag set once more for each flow that begins or ends at it.
+// Whether the state is valid. Each word, count and record is read once, and a tag set once more for each flow that
+// begins or ends at it.
 fn is_valid(t: &Tracker) -> bool
     requires { IsSized t.now.header.containers (state_in t.now).storage }
     ensures { result ≡ valid_of (state_in t.now) }
@@ -129,7 +131,8 @@ fn flows_valid(header: Header, tags: &[u64], flows: &[Flow]) -> bool
     true
 }
 
-// Whether the flow's number is not past the greatest, its ends are containers and differ, and the source's tags are the destination's too.
+// Whether the flow's number is not past the greatest, its ends are containers and differ, and the source's tags are the
+// destination's too.
 fn flow_valid(header: Header, tags: &[u64], f: Flow) -> bool
     requires { 4 * header.containers ≤ length tags.now }
     ensures { result ≡ flow_valid header tags.now f }
