@@ -6,7 +6,8 @@ use model::Flow;
 use sampleline::Line;
 use state::{Header, Tracker};
 
-// How much of each list is lent to the calls: words of tags, words of policy sets, counts and records of the flow table.
+// How much of each list is lent to the calls: words of tags, words of policy sets, counts and records of the flow
+// table.
 #[derive(Clone, Copy)]
 pub struct Room {
     pub tags: usize,
@@ -60,8 +61,8 @@ impl Room {
 }
 
 // The script's tracker: its header, and what is lent of the lists. A list that a call only reads is handed to it as
-// `&mut *storage.tags`: `storage.tags` is then a read of the storage while another list of it is lent, for which the borrow
-// checker has no rule.
+// `&mut *storage.tags`: `storage.tags` is then a read of the storage while another list of it is lent, for which the
+// borrow checker has no rule.
 #[derive(Drop)]
 pub struct Storage<'a> {
     pub header: &'a mut Header,

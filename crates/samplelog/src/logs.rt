@@ -1,4 +1,5 @@
 // Records and heads, read and written.
+// Room is fixed, as in the product, which has no heap.
 ghost use Rattle.std.specs.Prelude.{◌++◌, Some, codes, cond, decimal, drop, eqb, get_or};
 ghost use Rattle.std.specs.List.{flat_map};
 ghost use Rattle.eventlog.specs.Answer.{fields_of};

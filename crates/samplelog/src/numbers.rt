@@ -1,4 +1,5 @@
 // Numbers in groups of seven bits.
+// Room is fixed, as in the product, which has no heap.
 use sampleline::Line;
 use sampleline::print::{Spaced, read, written};
 use std::io;

@@ -1,4 +1,5 @@
 // Large logs, written and then run.
+// Room is fixed, as in the product, which has no heap.
 ghost use Rattle.std.specs.Iterator.{IsFinite};
 
 use crate::runs::{replay_log, tally};
@@ -30,8 +31,8 @@ pub fn large<W: Write>(
     tally(out, log, storage)
 }
 
-// Writes a log and answers its length: 513 flows; 16,384 bytes, and one more; 256 containers with no flow, and in a ring.
-// `kind` is the number that the script gives.
+// Writes a log and answers its length: 513 flows; 16,384 bytes, and one more; 256 containers with no flow, and in a
+// ring. `kind` is the number that the script gives.
 fn put_log(log: &mut [u8], kind: u32) -> usize {
     match kind {
         0 => put_all(log, 2, (1..514).map(|k| enable(k, 0, 1))),
@@ -70,12 +71,13 @@ fn put_all<I: Iterator<Item = Event> + Drop>(log: &mut [u8], n: u32, events: I) 
     at
 }
 
-// Writes n at the start, and answers the position after it.
+// Writes n at the start, and answers the position after it, or 0 where there is no room, as in `put`.
 fn put_head(log: &mut [u8], n: u32) -> usize {
     eventlog::write_head(log, n).unwrap_or(0)
 }
 
-// Writes a record, and answers the position after it, or `at` where there is no room.
+// Writes a record, and answers the position after it, or `at` where there is no room: a log that is too long is cut,
+// and then runs so.
 fn put(log: &mut [u8], at: usize, event: Event) -> usize {
     eventlog::write_record(log, at, event).unwrap_or(at)
 }

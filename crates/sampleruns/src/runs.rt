@@ -1,4 +1,5 @@
 // Replays and texts in the script's tracker.
+// Room is fixed, as in the product, which has no heap.
 use refusal::Refusal;
 use samplecalls::print::HeaderText;
 use samplecalls::storage::{Room, Storage};
@@ -64,8 +65,8 @@ pub fn short<W: Write>(
     written(out, reply, &text[..n])
 }
 
-// What a run of `tally` into `out` answers. The header and the flow table that it leaves are kept: it has a table of its
-// own.
+// What a run of `tally` into `out` answers. The header and the flow table that it leaves are kept: it has a table of
+// its own.
 fn run(bytes: &[u8], out: &mut [u8], storage: &mut Storage) -> Result<usize, Refusal> {
     let done = report::tally(bytes, storage.tags, storage.policies, storage.counts, out);
     *storage.header = done.header;
