@@ -13,8 +13,8 @@ place_of number (f ∷ fs) = cond (eqb f.number number) 0 (suc (place_of number 
 unfoldable pub found_in : ℕ → List Flow → Option ℕ
 found_in number fs = cond (is_enabled number fs) (Some (place_of number fs)) None
 
--- of the first `count` records the one in this place is gone, the later ones have moved down by one, the last is zero ('a closing moves the later
--- records down by one', 'unused records [..] are zero')
+-- of the first `count` records the one in this place is gone, the later ones have moved down by one, the last is zero
+-- ('a closing moves the later records down by one', 'unused records [..] are zero')
 abbrev pub shifted : ℕ → ℕ → List Flow → List Flow
 shifted place count table = take place table ++ (drop (suc place) (take count table) ++ (no_flow ∷ drop count table))
 

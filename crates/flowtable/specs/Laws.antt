@@ -1,5 +1,6 @@
--- The table of enabled flows: places and removals from record to record, that appending and removing a record are what the
--- model says of the enabled flows, and that a removal among the first records is one among the table's. Assumes nothing.
+-- The table of enabled flows: places and removals from record to record, that appending and removing a record are what
+-- the model says of the enabled flows, and that a removal among the first records is one among the table's. Assumes
+-- nothing.
 use Rattle.std.specs.Prelude.{◌≡◌, refl, Bool, true, false, cond, Some, None, ◌≢◌, List, [], ◌∷◌, ◌++◌, ℕ, zero, suc, ◌+◌, ◌-◌, ◌≤◌, ◌<◌, min, eqb, ltb, leb, length, get_or, set, take, drop, replicate}
 use Rattle.std.proofs.Common.{sym, ap, ap₂, ◌∙◌, append_assoc, add-zero, not-suc-le-zero, le_of_suc-le-suc, add-one, arith, length-append, length-set, length-take, length-drop, take-append-drop, drop_of_length-le, drop-cons, get_or-take, take_all, take-take, take-suc-set, eq-eqb, ne_eqb, eqb-true, ltb-true, lt-ltb, le-ltb, le-leb, leb-false}
 use Rattle.std.proofs.lemmas.Bool.{false≢true, lt-leb}

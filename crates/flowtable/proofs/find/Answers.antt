@@ -1,4 +1,5 @@
--- `position` gives the first place whose flow has the number (`place_of`), where one has it (`place-enabled`). Assumes nothing.
+-- `position` gives the first place whose flow has the number (`place_of`), where one has it (`place-enabled`). Assumes
+-- nothing.
 use Rattle.std.proofs.Common.{rules, tests, ◌≡◌, refl, ap, ◌∙◌, List, ℕ, eqb, cond, arith}
 use Rattle.std.specs.List.{position}
 use Rattle.std.proofs.lemmas.Iterator.{YieldsList-from_slice}
