@@ -271,7 +271,7 @@
 --   tracker above, the program on top': no theorem; crates.txt at the root
 -- 'The following places have long proofs done by hand, but they too take the named form once the core is complete',
 --   '"The open channels stand in a lent table of 512 records": slice of channel structs for append, shift down and
---   one scan, kept thin, after the core is proved': no theorem; `append`, `remove`, `find`
+--   one scan, kept thin, after the core is proved': no theorem; `put`, `remove`, `find`
 --   (flowtable/src/lib.rt)
 -- 'For every case of an enum answer, a definition gives this paper's number and values': `number_of`, `refusal_of`
 --   (refusal/specs/Number.antt), `answer_of` (calls/specs/Replies.antt), `asked_by` (question/specs/Replies.antt),
