@@ -36,8 +36,8 @@ pub fn go_on(
     (run.header, reply)
 }
 
-// `lent K F T B..`: a log replayed and a flow enabled after it by the public calls, on a lent table of other content. The
-// script's header and table stay.
+// `lent K F T B..`: a log replayed and a flow enabled after it by the public calls, on a lent table of other
+// content. The script's header and table stay.
 pub fn lent<W: Write>(
     out: &mut W,
     line: &Line,

@@ -5,8 +5,8 @@ use std::io;
 use std::io::Write;
 use tagset::TagSet;
 
-// `pair T.. 999 T..`: two sets, before 999, which is no tag, and behind it: their union, intersection and sizes, whether
-// the first is part of the second, and equal to it.
+// `pair T.. 999 T..`: two sets, before 999, which is no tag, and behind it: their union, intersection and sizes,
+// whether the first is part of the second, and equal to it.
 pub fn pair<W: Write>(out: &mut W, line: &Line) -> io::Result<()> {
     let tags = line.from(0);
     let middle = tags

@@ -1,5 +1,5 @@
-// Runs a script: prints each of its lines, and behind it what the library answers. The script is the file stdin, what must
-// be printed the file stdout.
+// Runs a script: prints each of its lines, and behind it what the library answers. The script is the file
+// stdin, what must be printed the file stdout.
 // Room is fixed, as in the product, which has no heap.
 #![tactic(auto)]
 
@@ -82,8 +82,8 @@ fn lend<W: Write>(out: &mut W, line: &Line, room: Room, whole: &mut Storage) -> 
     }
 }
 
-// `room T P C F`: from now on so many words of tags, words of policy sets, counts and records of the flow table are lent.
-// There are 600 records; those past the 512th are not judged.
+// `room T P C F`: from now on so many words of tags, words of policy sets, counts and records of the flow table are
+// lent. There are 600 records; those past the 512th are not judged.
 fn room_after<W: Write>(out: &mut W, line: &Line, room: Room) -> io::Result<Room> {
     if line.word != b"room".as_slice() {
         return Ok(room);
