@@ -1,8 +1,9 @@
 // The product for programs in other languages: its calls, the log's reader and writer and the text of `tally`, as
 // functions on numbers, slices and records. Each does what the function that its comment names does, and nothing else;
 // a refusal is said by its number. The crate foreign_c exports them as C functions.
-// A slice is a pointer and a length there. What no contract here can say, a caller in C owes: each pointer is aligned
-// and not null, its elements are there for the whole call, and what is lent to be written overlaps nothing else.
+// A slice is a pointer and a length there, and each list is one by itself. What no contract here can say, a caller in C
+// owes: each pointer is aligned and not null, its elements are there for the whole call, and what is lent to be written
+// overlaps nothing else.
 // evidence/product and evidence/interface have the same records in Rust.
 #![tactic(auto)]
 

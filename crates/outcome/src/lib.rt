@@ -1,3 +1,2 @@
-// What each call of the tracker answers and leaves: specs/Outcome.antt. The code is in the crate calls, the public
-// calls in tracker.
+// What each call of the tracker answers and leaves: specs/Outcome.antt. The code is in the crate calls.
 #![tactic(auto)]

@@ -145,6 +145,7 @@ impl Sheet<'_> {
         requires { self.old.at ≤ 2000000 }
         ensures { Puts self.old (spaced (tags_rising set)) self.new }
     {
+        // No `filter`: with it `tally` takes a sixth longer.
         for tag in 0..256 {
             if set.contains(tag) {
                 self.spaced(u64::from(tag));

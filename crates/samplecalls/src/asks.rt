@@ -1,4 +1,4 @@
-// Questions, the ranking, and what is stored.
+// Questions, the ranking, and what is stored. Room is fixed, as in the product, which has no heap.
 ghost use Rattle.std.specs.Prelude.{◌++◌, ◌%◌, OnOk, codes, cond, decimal, eqb, filter, get_or};
 ghost use Rattle.std.specs.List.{flat_map, range_with_len};
 ghost use Rattle.question.specs.Question.{tags_of, size_asked, legal_of};

@@ -31,20 +31,18 @@ impl Room {
         ..Room::MOST
     };
 
-    // What the numbers of a line say from the i-th on.
-    pub fn of(line: &Line, i: usize) -> Room
-        ensures tags { result.tags ≡ get_or line.now.numbers.items i 0 }
-        ensures policies { result.policies ≡ get_or line.now.numbers.items (i + 1) 0 }
-        ensures counts { result.counts ≡ get_or line.now.numbers.items (i + 2) 0 }
-        ensures flows { result.flows ≡ get_or line.now.numbers.items (i + 3) 0 }
+    // What the first four numbers of a line say.
+    pub fn of(line: &Line) -> Room
+        ensures tags { result.tags ≡ get_or line.now.numbers.items 0 0 }
+        ensures policies { result.policies ≡ get_or line.now.numbers.items 1 0 }
+        ensures counts { result.counts ≡ get_or line.now.numbers.items 2 0 }
+        ensures flows { result.flows ≡ get_or line.now.numbers.items 3 0 }
     {
-        let numbers = line.from(i);
-        let number = |k: usize| numbers.get(k).copied().unwrap_or(0) as usize;
         Room {
-            tags: number(0),
-            policies: number(1),
-            counts: number(2),
-            flows: number(3),
+            tags: line.get(0) as usize,
+            policies: line.get(1) as usize,
+            counts: line.get(2) as usize,
+            flows: line.get(3) as usize,
         }
     }
 
@@ -62,7 +60,7 @@ impl Room {
 
 // The script's tracker: its header, and what is lent of the lists. A list that a call only reads is handed to it as
 // `&mut *storage.tags`: `storage.tags` is then a read of the storage while another list of it is lent, for which the
-// borrow checker has no rule.
+// borrow checker has no rule. Nor has it one for a method that answers a part of it: who lends one spells it out.
 #[derive(Drop)]
 pub struct Storage<'a> {
     pub header: &'a mut Header,

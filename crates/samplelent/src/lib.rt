@@ -1,4 +1,4 @@
-// The public calls on a flow table that is lent to them: 513 records of any content.
+// The public calls on a flow table that is lent to them: 513 records of any content, in fixed room, as in the product.
 #![tactic(auto)]
 
 use model::Flow;

@@ -8,6 +8,7 @@ use std::io::Write;
 // `number V`: the bytes of V.
 pub fn number<W: Write>(out: &mut W, line: &Line) -> io::Result<()> {
     let mut bytes = [0u8; 10];
+    // A number has at most ten bytes, so it is never refused.
     let length = leb128::encode(&mut bytes, 0, line.get(0)).unwrap_or(0);
     write!(out, ":{}", Spaced(bytes.get(..length).unwrap_or(&[])))
 }

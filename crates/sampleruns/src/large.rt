@@ -36,10 +36,10 @@ pub fn large<W: Write>(
 fn put_log(log: &mut [u8], kind: u32) -> usize {
     match kind {
         0 => put_all(log, 2, (1..514).map(|k| enable(k, 0, 1))),
-        1 => put_all(log, 2, (0..4159).map(|i| turn(i))),
-        2 => put_all(log, 2, (0..4159).map(|i| turn(i))).saturating_add(1),
+        1 => put_all(log, 2, (0..4159).map(turn)),
+        2 => put_all(log, 2, (0..4159).map(turn)).saturating_add(1),
         3 => put_head(log, 256),
-        _ => put_all(log, 256, (0..256).map(|c| link(c))),
+        _ => put_all(log, 256, (0..256).map(link)),
     }
 }
 

@@ -10,7 +10,7 @@ use std::io::Write;
 
 // `judge T P C F B..`: n of a log, in lists of these lengths.
 pub fn judge<W: Write>(out: &mut W, line: &Line, bytes: &[u8]) -> io::Result<()> {
-    let room = Room::of(line, 0);
+    let room = Room::of(line);
     read(
         out,
         replay::read_containers(bytes, room.tags, room.policies, room.counts, room.flows),

@@ -1,6 +1,6 @@
 // Runs a script: prints each of its lines, and behind it what the library answers. The script is the file
 // stdin, what must be printed the file stdout.
-// Room is fixed, as in the product, which has no heap.
+// The script and what is printed are on the heap; all else has fixed room, as in the product.
 #![tactic(auto)]
 
 use model::Flow;
@@ -88,7 +88,7 @@ fn room_after<W: Write>(out: &mut W, line: &Line, room: Room) -> io::Result<Room
     if line.word != b"room".as_slice() {
         return Ok(room);
     }
-    let asked = Room::of(line, 0);
+    let asked = Room::of(line);
     if asked.is_there() {
         return Ok(asked);
     }
