@@ -322,7 +322,7 @@ use mathlib.Mathlib.Logic.Relation.{ReflTransGenᴰ}
 use Rattle.std.specs.Int.Count.{ones}
 use Rattle.truth.specs.Truth.{iff}
 use Rattle.refusal.specs.declared.Refusal.{Refusal}
-use Rattle.refusal.specs.Number.{number_of, refusal_of}
+use Rattle.refusal.specs.Number.{number_of as paper_number, refusal_of}
 use Rattle.refusal.specs.Order.{first_of}
 use Rattle.refusal.proofs.Number.{number-injective, refusal-injective}
 use Rattle.refusal.proofs.Order.{IsFirst}
@@ -1073,7 +1073,7 @@ pub the-numbers-tell-answers-apart :
     × ((q r : Result (Unit {0}) Refusal) → refusal_of q ≡ refusal_of r → q ≡ r)
     × ((q r : Result (ℕ × ℕ) Refusal) → reading_of q ≡ reading_of r → q ≡ r)
     × ((q r : Option Stop) → refusal_at q ≡ refusal_at r → byte_at q ≡ byte_at r → q ≡ r)
-    × ((q r : Refusal) → number_of q ≡ number_of r → q ≡ r)
+    × ((q r : Refusal) → paper_number q ≡ paper_number r → q ≡ r)
     × ((q r : Result ℕ Refusal) → writing_of q ≡ writing_of r → q ≡ r)
 the-numbers-tell-answers-apart = (
   asked-injective empty_set,
