@@ -2,6 +2,7 @@
 ghost use Rattle.std.specs.Prelude.{◌≡◌, ◌++◌, ◌%◌, IfOk, IfErr, OnErr, OnOk, codes, decimal, get_or};
 ghost use Rattle.std.specs.Io.KnownBytes.{Appends};
 ghost use Rattle.refusal.specs.Number.{number_of};
+ghost use Rattle.samplecalls.specs.Room.{SameRoom};
 
 use crate::print::HeaderText;
 use crate::storage::Storage;
@@ -14,7 +15,9 @@ use std::io;
 use std::io::Write;
 
 // `start N`, with the header that comes back: that of no tracker where it is refused.
-pub fn start<W: Write>(out: &mut W, line: &Line, storage: &mut Storage) -> io::Result<()> {
+pub fn start<W: Write>(out: &mut W, line: &Line, storage: &mut Storage) -> io::Result<()>
+    ensures { SameRoom storage.new storage.old }
+{
     *storage.header = Header::NONE;
     let n = line.small(0);
     let reply = calls::start(
@@ -28,23 +31,19 @@ pub fn start<W: Write>(out: &mut W, line: &Line, storage: &mut Storage) -> io::R
     write!(out, ", {}", HeaderText(*storage.header))
 }
 
-// `enable K F T`.
-pub fn enable<W: Write>(out: &mut W, line: &Line, storage: &mut Storage) -> io::Result<()> {
-    let reply = enabled(storage, flow_of(line.from(0)));
-    told(out, storage.header, reply)
-}
-
-// What enabling this flow answers.
-fn enabled(storage: &mut Storage, flow: Flow) -> Result<Accepted, Refusal> {
-    let now = *storage.header;
-    calls::enable(
-        now,
-        storage.tags,
-        &mut *storage.policies,
-        &mut *storage.counts,
-        storage.flows,
-        flow,
-    )
+// `enable K F T`. The lists are lent one by one, here and below, so that `&` says which of them stay.
+pub fn enable<W: Write>(
+    out: &mut W,
+    line: &Line,
+    header: &mut Header,
+    tags: &mut [u64],
+    policies: &[u64],
+    counts: &[u8],
+    flows: &mut [Flow],
+) -> io::Result<()> {
+    let flow = flow_of(line.from(0));
+    let reply = calls::enable(*header, tags, policies, counts, flows, flow);
+    told(out, header, reply)
 }
 
 // The flow whose number and ends these numbers begin with.
@@ -61,49 +60,53 @@ pub fn flow_of(numbers: &[u64]) -> Flow
 }
 
 // `disable K`.
-pub fn disable<W: Write>(out: &mut W, line: &Line, storage: &mut Storage) -> io::Result<()> {
+pub fn disable<W: Write>(
+    out: &mut W,
+    line: &Line,
+    header: &mut Header,
+    tags: &[u64],
+    policies: &[u64],
+    counts: &[u8],
+    flows: &mut [Flow],
+) -> io::Result<()> {
     let number = line.small(0);
-    let now = *storage.header;
-    let reply = calls::disable(
-        now,
-        &mut *storage.tags,
-        &mut *storage.policies,
-        &mut *storage.counts,
-        storage.flows,
-        number,
-    );
-    told(out, storage.header, reply)
+    let reply = calls::disable(*header, tags, policies, counts, flows, number);
+    told(out, header, reply)
 }
 
 // `add C T..`: the policy set of these tags.
-pub fn add<W: Write>(out: &mut W, line: &Line, storage: &mut Storage) -> io::Result<()> {
+pub fn add<W: Write>(
+    out: &mut W,
+    line: &Line,
+    header: &mut Header,
+    tags: &[u64],
+    policies: &mut [u64],
+    counts: &mut [u8],
+    flows: &[Flow],
+) -> io::Result<()> {
     let c = line.small(0);
     let policy = set_of(line.from(1));
-    let now = *storage.header;
-    let reply = calls::add_policy(
-        now,
-        &mut *storage.tags,
-        storage.policies,
-        storage.counts,
-        &mut *storage.flows,
-        c,
-        policy,
-    );
-    told(out, storage.header, reply)
+    let reply = calls::add_policy(*header, tags, policies, counts, flows, c, policy);
+    told(out, header, reply)
 }
 
 // `fill N`: enables N flows from 0 to 1, each with the next number. Nothing is printed.
-pub fn fill(line: &Line, storage: &mut Storage) {
+pub fn fill(
+    line: &Line,
+    header: &mut Header,
+    tags: &mut [u64],
+    policies: &[u64],
+    counts: &[u8],
+    flows: &mut [Flow],
+) {
     for _ in 0..line.small(0) {
         let flow = Flow {
-            number: storage.header.greatest % 65536 + 1,
+            number: header.greatest % 65536 + 1,
             from: 0,
             to: 1,
         };
-        let reply = enabled(storage, flow);
-        if let Ok(accepted) = reply {
-            *storage.header = accepted.header;
-        }
+        let reply = calls::enable(*header, tags, policies, counts, flows, flow);
+        *header = reply.map_or(*header, |accepted| accepted.header);
     }
 }
 

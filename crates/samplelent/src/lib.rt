@@ -1,6 +1,8 @@
 // The public calls on a flow table that is lent to them: 513 records of any content, in fixed room, as in the product.
 #![tactic(auto)]
 
+ghost use Rattle.samplecalls.specs.Room.{SameRoom, SameTable};
+
 use model::Flow;
 use samplecalls::changes::{flow_of, told};
 use samplecalls::print::HeaderText;
@@ -16,7 +18,10 @@ pub fn go_on(
     storage: &mut Storage,
     content: Flow,
     flow: Flow,
-) -> (Header, Result<Accepted, Refusal>) {
+) -> (Header, Result<Accepted, Refusal>)
+    ensures room { SameRoom storage.new storage.old }
+    ensures table { SameTable storage.new storage.old }
+{
     let mut table = [content; 513];
     let run = tracker::replay(
         bytes,
@@ -43,7 +48,10 @@ pub fn lent<W: Write>(
     line: &Line,
     bytes: &[u8],
     storage: &mut Storage,
-) -> io::Result<()> {
+) -> io::Result<()>
+    ensures room { SameRoom storage.new storage.old }
+    ensures table { SameTable storage.new storage.old }
+{
     let content = Flow {
         number: 7,
         from: 8,

@@ -6,15 +6,18 @@ use std::io::Write;
 use tagset::TagSet;
 
 // `pair T.. 999 T..`: two sets, before 999, which is no tag, and behind it: their union, intersection and sizes,
-// whether the first is part of the second, and equal to it.
+// whether the first is part of the second, and equal to it. With no 999 all of a line's 64 places are before it, and
+// those that it leaves out count as tag 0.
 pub fn pair<W: Write>(out: &mut W, line: &Line) -> io::Result<()> {
     let tags = line.from(0);
-    let middle = tags
-        .iter()
-        .position(|tag| *tag == 999)
-        .unwrap_or(tags.len());
-    let (front, back) = tags.split_at(middle);
-    let first = set_of(front);
+    let middle = tags.iter().position(|tag| *tag == 999);
+    let (front, back) = tags.split_at(middle.unwrap_or(tags.len()));
+    let left_out = if middle.is_none() && tags.len() < 64 {
+        TagSet::single(0)
+    } else {
+        TagSet::empty()
+    };
+    let first = set_of(front).union(left_out);
     let second = set_of(back);
     write!(out, ": union{}", Tags(first.union(second)))?;
     write!(out, ", intersection{}", Tags(first.intersection(second)))?;

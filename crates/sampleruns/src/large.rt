@@ -4,31 +4,45 @@ ghost use Rattle.std.specs.Iterator.{IsFinite};
 
 use crate::runs::{replay_log, tally};
 use eventlog::Event;
+use model::Flow;
 use samplecalls::storage::{Storage, front};
 use sampleline::Line;
+use state::Header;
 use std::io;
 use std::io::Write;
 
-// `large K`: the K-th of the logs below, replayed in so many records, and its text.
+// `large K`: the K-th of the logs below, replayed in so many records, and its text. The lists are lent one by one, so
+// that they keep their lengths by their types.
 pub fn large<W: Write>(
     out: &mut W,
     line: &Line,
     records: usize,
-    storage: &mut Storage,
+    header: &mut Header,
+    tags: &mut [u64],
+    policies: &mut [u64],
+    counts: &mut [u8],
+    flows: &mut [Flow],
 ) -> io::Result<()> {
     let mut bytes = [0u8; 16385];
     let length = put_log(&mut bytes, line.small(0)).min(16385);
     let log = &bytes[..length];
     let mut part = Storage {
-        header: &mut *storage.header,
-        tags: &mut *storage.tags,
-        policies: &mut *storage.policies,
-        counts: &mut *storage.counts,
-        flows: front(storage.flows, records),
+        header: &mut *header,
+        tags: &mut *tags,
+        policies: &mut *policies,
+        counts: &mut *counts,
+        flows: front(flows, records),
     };
     replay_log(out, log, &mut part)?;
     out.write_all(b", text")?;
-    tally(out, log, storage)
+    let mut whole = Storage {
+        header,
+        tags,
+        policies,
+        counts,
+        flows,
+    };
+    tally(out, log, &mut whole)
 }
 
 // Writes a log and answers its length: 513 flows; 16,384 bytes, and one more; 256 containers with no flow, and in a

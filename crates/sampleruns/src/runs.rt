@@ -1,5 +1,7 @@
 // Replays and texts in the script's tracker.
 // Room is fixed, as in the product, which has no heap.
+ghost use Rattle.samplecalls.specs.Room.{SameRoom};
+
 use refusal::Refusal;
 use samplecalls::print::HeaderText;
 use samplecalls::storage::{Room, Storage};
@@ -18,7 +20,9 @@ pub fn judge<W: Write>(out: &mut W, line: &Line, bytes: &[u8]) -> io::Result<()>
 }
 
 // `replay B..`: how the run ended, the events done, their gain and the header.
-pub fn replay_log<W: Write>(out: &mut W, bytes: &[u8], storage: &mut Storage) -> io::Result<()> {
+pub fn replay_log<W: Write>(out: &mut W, bytes: &[u8], storage: &mut Storage) -> io::Result<()>
+    ensures { SameRoom storage.new storage.old }
+{
     let run = replay::replay(
         bytes,
         storage.tags,
@@ -37,7 +41,9 @@ pub fn replay_log<W: Write>(out: &mut W, bytes: &[u8], storage: &mut Storage) ->
 
 // `tally B..`: the whole text, on lines of its own without its last newline, or only how long it is where that is above
 // 512.
-pub fn tally<W: Write>(out: &mut W, bytes: &[u8], storage: &mut Storage) -> io::Result<()> {
+pub fn tally<W: Write>(out: &mut W, bytes: &[u8], storage: &mut Storage) -> io::Result<()>
+    ensures { SameRoom storage.new storage.old }
+{
     let mut text = [0u8; 264256];
     let reply = run(bytes, &mut text, storage);
     out.write_all(b":")?;
@@ -58,7 +64,9 @@ pub fn short<W: Write>(
     line: &Line,
     bytes: &[u8],
     storage: &mut Storage,
-) -> io::Result<()> {
+) -> io::Result<()>
+    ensures { SameRoom storage.new storage.old }
+{
     let n = (line.get(0) % 65) as usize;
     let mut text = [7u8; 64];
     let reply = run(bytes, &mut text[..n], storage);
@@ -67,11 +75,12 @@ pub fn short<W: Write>(
 
 // What a run of `tally` into `out` answers. The header and the flow table that it leaves are kept: it has a table of
 // its own.
-fn run(bytes: &[u8], out: &mut [u8], storage: &mut Storage) -> Result<usize, Refusal> {
+fn run(bytes: &[u8], out: &mut [u8], storage: &mut Storage) -> Result<usize, Refusal>
+    ensures { SameRoom storage.new storage.old }
+{
     let done = report::tally(bytes, storage.tags, storage.policies, storage.counts, out);
     *storage.header = done.header;
-    for (place, flow) in storage.flows.iter_mut().zip(done.flows.iter()) {
-        *place = *flow;
-    }
+    let n = storage.flows.len().min(done.flows.len());
+    storage.flows[..n].copy_from_slice(&done.flows[..n]);
     done.reply
 }

@@ -61,7 +61,7 @@ fn lend<W: Write>(out: &mut W, line: &Line, room: Room, whole: &mut Storage) -> 
     match line.word {
         b"flow" => Ok(flowtable::put(
             front(whole.flows, 512),
-            line.get(0) as usize,
+            line.small(0) as usize,
             flow_of(line.from(1)),
         )),
         b"list" => asks::list(out, *whole.header, front(whole.flows, 512)),
@@ -104,7 +104,16 @@ fn step<W: Write>(
     storage: &mut Storage,
 ) -> io::Result<()> {
     if line.word == b"large".as_slice() {
-        return large::large(out, line, records, storage);
+        return large::large(
+            out,
+            line,
+            records,
+            storage.header,
+            storage.tags,
+            storage.policies,
+            storage.counts,
+            storage.flows,
+        );
     }
     match line.bytes(first_byte(line.word)) {
         Some(bytes) => change(out, line, &bytes, storage),
@@ -133,10 +142,14 @@ fn change<W: Write>(
 ) -> io::Result<()> {
     match line.word {
         b"start" => changes::start(out, line, storage),
-        b"enable" => changes::enable(out, line, storage),
-        b"disable" => changes::disable(out, line, storage),
-        b"add" => changes::add(out, line, storage),
-        b"fill" => Ok(changes::fill(line, storage)),
+        b"fill" => Ok(changes::fill(
+            line,
+            storage.header,
+            storage.tags,
+            &mut *storage.policies,
+            &mut *storage.counts,
+            storage.flows,
+        )),
         b"header" => Ok(*storage.header = pokes::header(line)),
         b"word" => Ok(flowtable::put(storage.tags, line.get(0) as usize, line.get(1))),
         b"policy" => Ok(flowtable::put(storage.policies, line.get(0) as usize, line.get(1))),
@@ -150,6 +163,40 @@ fn change<W: Write>(
         b"lent" => samplelent::lent(out, line, bytes, storage),
         b"tally" => runs::tally(out, bytes, storage),
         b"short" => runs::short(out, line, bytes, storage),
+        _ => call(out, line, bytes, storage),
+    }
+}
+
+// The words of the calls, which are lent the lists one by one.
+fn call<W: Write>(out: &mut W, line: &Line, bytes: &[u8], storage: &mut Storage) -> io::Result<()> {
+    match line.word {
+        b"enable" => changes::enable(
+            out,
+            line,
+            storage.header,
+            storage.tags,
+            &mut *storage.policies,
+            &mut *storage.counts,
+            storage.flows,
+        ),
+        b"disable" => changes::disable(
+            out,
+            line,
+            storage.header,
+            &mut *storage.tags,
+            &mut *storage.policies,
+            &mut *storage.counts,
+            storage.flows,
+        ),
+        b"add" => changes::add(
+            out,
+            line,
+            storage.header,
+            &mut *storage.tags,
+            storage.policies,
+            storage.counts,
+            &mut *storage.flows,
+        ),
         _ => ask(out, line, bytes, &storage.seen()),
     }
 }
@@ -167,7 +214,8 @@ fn ask<W: Write>(out: &mut W, line: &Line, bytes: &[u8], tracker: &Tracker) -> i
     }
 }
 
-// The words on numbers, logs and sets. `room` is done already, and a line that is empty or begins with # is a note.
+// The words on numbers, logs and sets. `room` is done already. A line that is empty, or begins with # or a byte of 0, is
+// a note; one that begins with a space has an empty word, which is none.
 fn read<W: Write>(out: &mut W, line: &Line, bytes: &[u8]) -> io::Result<()> {
     match line.word {
         b"number" => numbers::number(out, line),
@@ -182,7 +230,8 @@ fn read<W: Write>(out: &mut W, line: &Line, bytes: &[u8]) -> io::Result<()> {
         b"pair" => sets::pair(out, line),
         b"under" => sets::under(out, line),
         b"over" => sets::over(out, line),
-        b"" | b"room" | [b'#', ..] => Ok(()),
+        b"room" | [0 | b'#', ..] => Ok(()),
+        b"" if line.from(0).is_empty() => Ok(()),
         _ => out.write_all(b": no such word"),
     }
 }
