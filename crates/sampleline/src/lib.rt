@@ -12,7 +12,7 @@ use arrayvec::ArrayVec;
 use tagset::TagSet;
 
 // A line: its word, and the numbers behind it, at most 64.
-#[derive(Drop)]
+#[derive(Clone, Drop)]
 pub struct Line<'a> {
     pub word: &'a [u8],
     numbers: ArrayVec<u64, 64>,

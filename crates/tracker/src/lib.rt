@@ -4,8 +4,10 @@
 #![tactic(auto)]
 
 pub use calls::{Accepted, add_policy, disable, enable, start};
+pub use model::Flow;
 pub use question::{is_legal, size_of, tags_of};
 pub use ranking::rank;
 pub use refusal::Refusal;
 pub use replay::{Replayed, Stop, replay};
 pub use state::{Header, Tracker};
+pub use tagset::TagSet;
