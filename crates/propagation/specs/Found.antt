@@ -24,6 +24,11 @@ pub found-all : {n : ℕ} {Out : ℕ → Type 0} {found ws : List ℕ} → ((a :
     → Found n Out found ws
 found-all same = record { at = λ a l. inr (same a l) }
 
+-- the containers that are out are out among more
+pub found-among : {n : ℕ} {Out Out' : ℕ → Type 0} {found ws : List ℕ} → ((a : ℕ) → Out a → Out' a)
+    → Found n Out found ws → Found n Out' found ws
+found-among more f = record { at = λ a l. ⊎_elim (λ w. inl (more a w)) inr (f.at a l) }
+
 -- the set of one container more has changed, which is out then
 pub found-wider : {n : ℕ} {Out Out' : ℕ → Type 0} {found ws : List ℕ} (b : ℕ) {ws' : List ℕ} → Out' b
     → ((a : ℕ) → Out a → Out' a) → Found n Out found ws → ((a : ℕ) → a ≢ b → set_at ws' a ≡ set_at ws a)
@@ -113,3 +118,8 @@ module _ (first end : ℕ) (ws found : List ℕ) (o : first ≤ end)
     where
       outside : (a : ℕ) → a < n → ((first ≤ a) × (a < end) → ⊥) → set_at found a ≡ set_at ws a
       outside a l out = ⊎_elim (λ w. absurd (out w)) (λ e. e) (f.at a l)
+
+-- and the first n are those of ws where all of them are copied
+pub all-copied : (n : ℕ) (ws found : List ℕ) → 4 * n ≤ length ws → 4 * n ≤ length found → (a : ℕ) → a < n
+    → set_at (copied 0 n ws found) a ≡ set_at ws a
+all-copied n ws found hw hf a l = copied-inside 0 n ws found (omega arith) hw hf a (omega arith) l

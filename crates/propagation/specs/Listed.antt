@@ -1,7 +1,9 @@
 -- The sets found, where the containers whose sets a pass changes are listed one by one, and these sets are copied again
--- after it. No code lists them now; the laws say of any list what Found.antt says of a part. Assumes nothing.
-use Rattle.std.specs.Prelude.{◌≡◌, ◌≢◌, List, ℕ, ◌+◌, ◌*◌, ◌/◌, ◌≤◌, ◌<◌, length, get_or, set, leb}
+-- after it. The laws say of any list what Found.antt says of a part. A pass keeps a list while it has room. Assumes
+-- nothing.
+use Rattle.std.specs.Prelude.{◌≡◌, ◌≢◌, List, ℕ, ◌+◌, ◌*◌, ◌/◌, ◌≤◌, ◌<◌, length, get_or, set, take, leb}
 use Rattle.std.proofs.Common.{sym, ap, ◌∙◌, inl, inr, ⊎_elim, arith, get_or-set_same, get_or-set_other}
+use Rattle.std.proofs.Common.{get_or-take, length-take-le}
 use Rattle.std.proofs.Math.Logic.{by_cases}
 use Rattle.std.proofs.Math.Decide.{ℕ_discrete}
 use borrow.Table.Steps.{cases}
@@ -55,3 +57,21 @@ found-again {n} changed j m {found} {ws} hf hw f = record {
   where
     other : (a : ℕ) (w : Listed changed j m a) → a ≢ get_or changed j 0 → w.0 ≢ j
     other a w q e = q (sym w.3 ∙ ap (λ (i : ℕ). get_or changed i 0) e)
+
+-- one that is listed up to place m is in the first m of the list
+pub listed-front : (changed : List ℕ) (m : ℕ) {a : ℕ} → m ≤ length changed → Listed changed 0 m a
+    → Listed (take m changed) 0 (length (take m changed)) a
+listed-front changed m h w =
+    (w.0, omega arith, omega (arith, length-take-le m changed h, w.2), get_or-take m changed w.0 0 w.2 ∙ w.3)
+
+-- A LIST THAT HAS ROOM FOR 64, as a pass keeps it
+
+-- container a is among the first `count` that are listed; where the list is full it may lack any
+abbrev pub WithRoom : ℕ → List ℕ → ℕ → Type 0
+WithRoom count list a = count < 64 → Listed list 0 count a
+
+-- so it is among the first of the list, taken alone
+pub room-front : (list : List ℕ) (count : ℕ) → count ≤ length list → (a : ℕ) → WithRoom count list a
+    → WithRoom (length (take count list)) (take count list) a
+room-front list count h a w =
+    λ l. listed-front list count h (w (omega (arith, l, length-take-le count list h)))

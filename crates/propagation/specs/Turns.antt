@@ -18,7 +18,7 @@ use Rattle.state.proofs.LayoutLaws.{set-fits}
 use Rattle.tagstore.specs.Store.{put_set}
 use Rattle.tagstore.proofs.Put.{put_same, put-other-set}
 use Rattle.propagation.specs.Pass.{inside, carried, new_tags, carried_all, new_in_all, passed, new_in_passes, passes_of}
-use Rattle.propagation.specs.Found.{Found, Part, part-more}
+use Rattle.propagation.specs.Found.{Found, Part, part-more, found-wider}
 use Rattle.propagation.specs.Listed.{Listed, found-more}
 use Rattle.propagation.specs.Exact.{inside-iff, edge-inside, edge-outside, passes-some}
 
@@ -99,6 +99,12 @@ pub found-listed : {n : ℕ} (changed : List ℕ) (m : ℕ) {found ws ws' : List
     → Carried n found (edges f) ws ws' new → Found n (Listed changed 0 m) found ws
     → Found n (Listed (set changed m f.to) 0 (m + 1)) found ws'
 found-listed changed m f r made now = found-more changed m f.to r now (carried-others f made)
+
+-- or for any containers among which it is
+pub found-changed : {n : ℕ} {Out Out' : ℕ → Type 0} {found ws ws' : List ℕ} (f : Flow) {new : ℕ}
+    → Carried n found (edges f) ws ws' new → Out' f.to → ((a : ℕ) → Out a → Out' a) → Found n Out found ws
+    → Found n Out' found ws'
+found-changed f made here wider now = found-wider f.to here wider now (carried-others f made)
 
 -- THE PASSES
 

@@ -1,10 +1,12 @@
 // Tags carried along the enabled flows (document 01: the spread), pass by pass, up to the first pass that adds none.
 #![tactic(auto)]
 
-ghost use Rattle.std.specs.Prelude.{◌≡◌, ◌*◌, ◌≤◌, length};
+ghost use Rattle.std.specs.Prelude.{◌≡◌, ℕ, ◌*◌, ◌≤◌, ◌<◌, length};
+ghost use Rattle.state.specs.State.{set_at};
 ghost use Rattle.state.specs.Layout.{Fit64};
 ghost use Rattle.model.specs.Model.{edges, edges_of};
-ghost use Rattle.propagation.specs.Found.{copied};
+ghost use Rattle.propagation.specs.Found.{Found, copied};
+ghost use Rattle.propagation.specs.Listed.{Listed, WithRoom};
 ghost use Rattle.propagation.specs.Pass.{carried, new_tags, carried_all, new_in_all, passed, new_in_passes, passes_of, pass_count, sets_after, pairs_added};
 
 use model::Flow;
@@ -41,7 +43,7 @@ struct Sets<'a> {
 
 impl Sets<'_> {
     // Passes over the flows, up to the first that adds nothing. Within a pass each flow reads the sets as the pass
-    // found them: a copy, in which the sets from the first to the last that a pass changed are copied again after it.
+    // found them: a copy, in which the sets that a pass changed are copied again after it.
     fn make_passes(&mut self, flows: &[Flow]) -> Propagated
         ensures same { self.new.words.ghost_name ≡ self.old.words.ghost_name }
         ensures passes { result.passes ≡ passes_of self.old.n (edges_of flows.now) self.old.words.now }
@@ -50,21 +52,20 @@ impl Sets<'_> {
     {
         // There is no heap, by the project's rule, so room is fixed: for 256 sets.
         let mut found = [0u64; 1024];
-        let n = self.n;
-        self.copy_sets(&mut found, 0, n);
+        self.copy_sets(&mut found);
+        // The containers whose sets a pass changed, while there is room.
+        let mut list = [0u32; 64];
         let mut gain: u32 = 0;
         let mut passes: u32 = 0;
         // How many passes there are is known after the last, so there is no range to go over.
         'passes: loop {
             let mut added: u32 = 0;
-            let mut first = n;
-            let mut end: u32 = 0;
+            let mut count: usize = 0;
             for flow in flows {
                 let new = self.carry_flow(&found, *flow);
                 if new != 0 {
                     added += new;
-                    first = first.min(flow.to);
-                    end = end.max(flow.to + 1);
+                    count = list_one(&mut list, count, flow.to);
                 }
             }
             passes += 1;
@@ -72,7 +73,7 @@ impl Sets<'_> {
             if added == 0 {
                 break 'passes;
             }
-            self.copy_sets(&mut found, first, end);
+            self.copy_changed(&mut found, &list[..count]);
         }
         Propagated { gain, passes }
     }
@@ -112,13 +113,50 @@ impl Sets<'_> {
         new.size() - old.size()
     }
 
-    // Copies the sets of the containers from `first` up to `end`.
-    fn copy_sets(&self, found: &mut [u64; 1024], first: u32, end: u32)
-        requires { (first ≤ end) × (end ≤ self.now.n) }
-        ensures { found.new ≡ copied first end self.now.words.now found.old }
+    // Copies the sets that a pass changed: all, where they are no more than four times as many as are listed, and else
+    // those that are listed. So its cost grows with the flows that added tags, and not with the containers.
+    fn copy_changed(&self, found: &mut [u64; 1024], list: &[u32])
+        ensures { Found self.now.n (WithRoom (length list.now) list.now) found.old self.now.words.now
+            → (a : ℕ) → a < self.now.n → set_at found.new a ≡ set_at self.now.words.now a }
     {
-        let from = 4 * (first as usize);
-        let to = 4 * (end as usize);
-        found[from..to].copy_from_slice(&self.words[from..to]);
+        if self.n as usize <= 4 * list.len() {
+            self.copy_sets(found);
+        } else {
+            self.copy_listed(found, list);
+        }
     }
+
+    // Copies the sets of the containers that are listed.
+    fn copy_listed(&self, found: &mut [u64; 1024], list: &[u32])
+        ensures { Found self.now.n (Listed list.now 0 (length list.now)) found.old self.now.words.now
+            → (a : ℕ) → a < self.now.n → set_at found.new a ≡ set_at self.now.words.now a }
+    {
+        for container in list {
+            let k = *container as usize;
+            tagstore::store_set(found, k, tagstore::load_set(self.words, k));
+        }
+    }
+
+    // Copies all the sets.
+    fn copy_sets(&self, found: &mut [u64; 1024])
+        ensures { found.new ≡ copied 0 self.now.n self.now.words.now found.old }
+    {
+        let end = 4 * (self.n as usize);
+        found[..end].copy_from_slice(&self.words[..end]);
+    }
+}
+
+// Lists one container more, while there is room. Answers how many are listed. A full list may lack some; it has a
+// quarter of 256 places, so that all sets are copied then.
+fn list_one(list: &mut [u32; 64], count: usize, container: u32) -> usize
+    requires { count ≤ 64 }
+    ensures room { result ≤ 64 }
+    ensures this { WithRoom result list.new container }
+    ensures others { (a : ℕ) → WithRoom count list.old a → WithRoom result list.new a }
+{
+    if 64 <= count {
+        return count;
+    }
+    list[count] = container;
+    count + 1
 }

@@ -1,13 +1,14 @@
 -- `make_passes` meets its contract. A pass: the edges of the flows so far are carried, `added` is what was new, and
--- the sets that changed lie from `first` up to `end`. The passes: those made are not all (`Underway`), and the sets
--- found are those that they left; measured by those left. Assumes nothing.
-use Rattle.std.proofs.Common.{refl, ap, ◌∙◌, subst, inl, List, ℕ, ◌+◌, ◌*◌, ◌≤◌, length, get_or, take, arith, take_all}
+-- the containers whose sets changed are listed while there is room. The passes: those made are not all (`Underway`),
+-- and the sets found are those that they left; measured by those left. Assumes nothing.
+use Rattle.std.proofs.Common.{refl, ap, ◌∙◌, subst, List, ℕ, ◌+◌, ◌*◌, ◌≤◌, length, get_or, take, arith, take_all}
 use Rattle.model.specs.declared.Flow.{Flow}
 use Rattle.model.specs.Model.{edges, edges_of}
 use Rattle.state.specs.State.{set_at, no_flow}
 use Rattle.propagation.specs.Exact.{passes-most}
-use Rattle.propagation.specs.Found.{found-all, found-copied}
-use Rattle.propagation.specs.Turns.{Carried, adds-inside, found-carried, carried_none, none_made}
+use Rattle.propagation.specs.Found.{found-all, found-among, all-copied}
+use Rattle.propagation.specs.Listed.{room-front}
+use Rattle.propagation.specs.Turns.{Carried, found-changed, carried_none, none_made}
 use Rattle.propagation.proofs.Turns.{carried-fits, flow-carried, gain-fits, one-made, all_made}
 use Rattle.propagation.proofs.Sets.make_passes.Goals as goal
 use Rattle.propagation.proofs.Sets.make_passes.Goals.{At-passes, After-loop-flow, After-carry_flow-new}
@@ -49,8 +50,7 @@ passes-init c = record {
   place = refl;
   long = c.type_inv.found;
   found = λ a l. ap (λ (x : List ℕ). set_at x a) c.copy_sets.ensures
-      ∙ found-copied 0 c.args.self.now.n c.args.self.now.words.now _ (omega arith) (omega arith) (omega arith)
-      (record { at = λ b h. inl (omega arith, h) }) a l;
+      ∙ all-copied c.args.self.now.n c.args.self.now.words.now _ (omega arith) (omega arith) a l;
   made = none_made _ _ _;
 }
 
@@ -58,8 +58,7 @@ pub loop-flow-init : goal.loop-flow-init
 loop-flow-init c = record {
   same = c.passes.invariant.same;
   place = refl;
-  within = omega arith;
-  some = λ h. omega arith;
+  room = omega arith;
   found = found-all c.passes.invariant.found;
   carried = carried_none _ _ _;
 }
@@ -69,31 +68,24 @@ overflow_add-added c =
     let there = goal.at.overflow_add-added c in
     omega (arith, carried-fits (room there.At-passes) (turn there.After-carry_flow-new))
 
-pub overflow_add-flow : goal.overflow_add-flow
-overflow_add-flow c =
-    let here = (goal.at.overflow_add-flow c).After-carry_flow-new in
-    omega (arith, adds-inside (flow here) (one here) c.if-new-ne0.true)
-
 pub loop-flow-preserved : goal.loop-flow-preserved
 loop-flow-preserved c =
     let here = (goal.at.loop-flow-preserved c).After-carry_flow-new in
     let before = c.loop-flow.invariant in
     elim c.if-new-ne0.branch [
-      | then-new-ne0 w ↦ let to = adds-inside (flow here) (one here) w.if-new-ne0.true in record {
+      | then-new-ne0 w ↦ record {
         same = c.carry_flow-new.ensures.same.0 ∙ before.same;
         place = c.carry_flow-new.ensures.same.1 ∙ before.place;
-        within = omega (arith, w.end-is, w.max-end.ensures, to, before.within);
-        some = λ h. omega (arith, w.first-is, w.end-is, w.min-first.ensures, w.max-end.ensures);
-        found = rw (w.first-is, w.end-is, w.min-first.ensures, w.max-end.ensures)
-            (found-carried (flow here) (one here) before.found);
+        room = rw w.count-is w.list_one-count.ensures.room;
+        found = let listed = w.list_one-count.ensures in
+            rw (w.count-is, w.list-is) (found-changed (flow here) (one here) listed.this listed.others before.found);
         carried = rw w.added-is (turn here);
       }
       | else-new-ne0 w ↦ record {
         same = c.carry_flow-new.ensures.same.0 ∙ before.same;
         place = c.carry_flow-new.ensures.same.1 ∙ before.place;
-        within = omega (arith, w.end-is, before.within);
-        some = λ h. rw (w.first-is, w.end-is) (before.some (omega (arith, w.added-is, h)));
-        found = rw (w.first-is, w.end-is, c.carry_flow-new.ensures.none w.if-new-ne0.false) before.found;
+        room = rw w.count-is before.room;
+        found = rw (w.count-is, w.list-is, c.carry_flow-new.ensures.none w.if-new-ne0.false) before.found;
         carried = subst (Carried _ _ _ _ _) (omega (arith, w.added-is, w.if-new-ne0.false)) (turn here);
       }
     ]
@@ -108,26 +100,19 @@ overflow_add-gain c =
     let there = goal.at.overflow_add-gain c in
     omega (arith, gain-fits (room there.At-passes) c.passes.invariant.made (pass there.After-loop-flow))
 
-pub copy_sets-requires-in-passes : goal.copy_sets-requires-in-passes
-copy_sets-requires-in-passes c =
-    let some = c.loop-flow.invariant.some (omega arith) in
-    (omega arith, omega (arith, c.loop-flow.invariant.same))
-
 pub passes-smaller : goal.passes-smaller
 passes-smaller c = omega (arith, c.loop-flow.invariant.same, c.passes.invariant.made.fewer)
 
 pub passes-preserved : goal.passes-preserved
 passes-preserved c =
     let there = goal.at.passes-preserved c in
-    let some = c.loop-flow.invariant.some (omega arith) in
-    let n = c.loop-flow.invariant.same in
-    let again =
-    found-copied c.loop-flow.first c.loop-flow.end c.loop-flow.self.words.now c.passes.found (omega arith)
-    (omega (arith, n)) (omega (arith, n, c.passes.invariant.long)) c.loop-flow.invariant.found in record {
+    let now = c.loop-flow.invariant in
+    let n = now.same in
+    let front = room-front c.loop-flow.list c.loop-flow.count (omega (arith, now.room)) in record {
       same = n;
-      place = c.loop-flow.invariant.place ∙ c.passes.invariant.place;
+      place = now.place ∙ c.passes.invariant.place;
       long = c.type_inv.found;
-      found = λ a l. ap (λ (x : List ℕ). set_at x a) c.copy_sets-in-passes.ensures ∙ again a l;
+      found = λ a l. c.copy_changed.ensures (rw n (found-among front now.found)) a (omega (arith, n));
       made = one-made (room there.At-passes) c.passes.invariant.made (pass there.After-loop-flow) (omega arith);
     }
 
