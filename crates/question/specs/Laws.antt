@@ -155,10 +155,28 @@ module _ {A : Type 0} (none value : A) where
   value-untold : (r k : ℕ) → (asked r none value).refusal ≡ suc k → (asked r none value).value ≡ none
   value-untold r k e = ap (λ (a : Asked A). a.value) (asked-untold r k (sym (asked-number r) ∙ e))
 
+-- an answer is its number and its value
+pub asked_is : {A : Type 0} (x : Asked A) (v : A) {k : ℕ} → x.refusal ≡ k → x.value ≡ v
+    → ◌≡◌ {A = Asked A} (record { refusal = k; value = v }) x
+asked_is x v p q = λ i. record { refusal = sym p i; value = sym q i }
+
 module _ (s : State) (c : ℕ) where
   -- the number that is decided on
   abbrev number : ℕ
   number = first_of (question_order s c) 0
+
+  -- it is the number of each answer
+  pub tags-number : (tags_of s c).refusal ≡ first_of (question_order s c) 0
+  unfolding tags_of
+  tags-number = asked-number empty_set (set_at s.storage.tags c) number
+
+  pub size_number : (size_asked s c).refusal ≡ first_of (question_order s c) 0
+  unfolding size_asked
+  size_number = asked-number 0 (size_of (set_at s.storage.tags c)) number
+
+  pub legal-number : (legal_of s c).refusal ≡ first_of (question_order s c) 0
+  unfolding legal_of
+  legal-number = asked-number false (is_legal s c) number
 
   -- A QUESTION THAT IS NOT REFUSED tells the container's tag set
   pub tags-told : (tags_of s c).refusal ≡ 0 → (tags_of s c).value ≡ set_at s.storage.tags c

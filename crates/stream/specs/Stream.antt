@@ -1,8 +1,22 @@
--- What reading to the end gives, what printing does, and what a line shows of a name. Assumes nothing.
+-- What a read says, what reading to the end gives, what printing does, and what a line shows of a name.
+-- Assumes nothing.
 use Rattle.std.specs.Prelude.{ℕ, ◌≤◌, ◌<◌, cond, eqb, ltb, List, [], ◌∷◌, ◌++◌, length, take, ◌⊎◌}
-use Rattle.std.specs.Prelude.{Option, Result, MatchResult}
+use Rattle.std.specs.Prelude.{Option, None, Some, Result, Ok, Err, MatchResult}
 use Rattle.std.specs.declared.io.Error.{Error}
+use Rattle.std.specs.declared.io.ErrorKind.{ErrorKind}
+use Rattle.std.specs.declared.io.ErrorKind.TheVariants.{Interrupted}
+use Rattle.std.specs.IoError.{error_kind}
 use Rattle.std.specs.Io.KnownBytes.{Keeps, Consumes, Appends, IsAtEnd}
+
+-- a read that failed is tried again (None) where it was interrupted: a signal came before a byte did
+abbrev pub failed_by : ErrorKind → Error → Result (Option ℕ) Error
+failed_by Interrupted error = Ok None
+failed_by kind error = Err error
+
+-- what a read says that answered this: so many bytes, 0 at the end; an error is a failure, for the reason that it has
+abbrev pub step_of : Result ℕ Error → Result (Option ℕ) Error
+step_of (Ok n) = Ok (Some n)
+step_of (Err error) = failed_by (error_kind error) error
 
 -- what can come of reading into so much room: no more bytes than there is room for; without room there is no read that
 -- could fail

@@ -10,7 +10,7 @@
 ghost use Rattle.std.specs.Prelude.{◌≡◌, ◌↔◌, map, length, IsTrue, OnOk};
 ghost use Rattle.std.specs.Io.KnownBytes.{Appends};
 ghost use Rattle.std.specs.IoError.{error_kind};
-ghost use Rattle.stream.specs.Stream.{visible_byte, line_of, Within, Came, Begins, Says, Tells, Prints};
+ghost use Rattle.stream.specs.Stream.{step_of, visible_byte, line_of, Within, Came, Begins, Says, Tells, Prints};
 
 use std::io;
 use std::io::{ErrorKind, Read, Write};
@@ -26,14 +26,26 @@ pub fn read_to_end<R: Read>(reader: &mut R, buf: &mut [u8]) -> io::Result<usize>
     let mut done = 0;
     let mut tries = 0..u64::MAX;
     while done < buf.len() {
-        match reader.read(&mut buf[done..]) {
-            Ok(0) => break,
-            Ok(more) => done += more,
-            Err(error) if is_interrupted(&error) && tries.next().is_some() => {}
-            Err(error) => return Err(error),
+        match unless_interrupted(reader.read(&mut buf[done..]))? {
+            Some(0) => break,
+            Some(more) => done += more,
+            None if tries.next().is_some() => {}
+            None => return Err(io::Error::from(ErrorKind::Interrupted)),
         }
     }
     Ok(done)
+}
+
+// What a read says that answered `read`: how many bytes came, 0 at the end, or None where it was interrupted, so that it
+// is tried again. Any other failure is handed on as it is.
+fn unless_interrupted(read: io::Result<usize>) -> io::Result<Option<usize>>
+    ensures { result ≡ step_of read }
+{
+    match read {
+        Ok(n) => Ok(Some(n)),
+        Err(error) if is_interrupted(&error) => Ok(None),
+        Err(error) => Err(error),
+    }
 }
 
 // Whether a signal interrupted the call.

@@ -15,12 +15,17 @@ more : (a b c : Option (List ℕ)) (front part rest : List ℕ) (f n : ℕ) → 
     → Consumes a c (take (f + n) (front ++ (part ++ rest)))
 more a b c front part rest f n long h before came = subst (Consumes a c) (after front part rest f n long h) (Consumes-trans a b c _ _ before came)
 
-pub loop-done-preserved-in-Ok : goal.loop-done-preserved-in-Ok
-loop-done-preserved-in-Ok g c =
+pub loop-done-preserved-in-Some : goal.loop-done-preserved-in-Some
+loop-done-preserved-in-Some g c =
     let at = c.loop-done in
-    let read = c.in-Ok.ensures in
+    let part = c.read.new.buf in
+    let n = c.in-Some.more in
+    let front = length-take-le at.done at.buf (omega (arith, at.invariant.within)) in
+    let bound : n ≤ length part = search rules in
+    let bytes : Consumes (g.R.Read.remaining at.reader) (g.R.Read.remaining c.read.new.self) (take n part) =
+    search rules in
     record {
-      came = more _ _ _ _ c.read.new.buf _ at.done c.in-Ok.more (length-take-le at.done at.buf (omega (arith, at.invariant.within))) read.bound.0 at.invariant.came read.bytes.0;
+      came = more _ _ _ _ part _ at.done n front bound at.invariant.came bytes;
       within = search rules;
       same_length = search rules;
     }
