@@ -10,6 +10,10 @@ ghost use Rattle.decimal.specs.Decimal.{decimal_of};
 pub fn decimal_len(value: u64) -> usize
     ensures { result ≡ length (decimal_of value) }
 {
+    // A number of one digit needs no logarithm.
+    if value < 10 {
+        return 1;
+    }
     value.checked_ilog10().unwrap_or(0) as usize + 1
 }
 
@@ -18,6 +22,13 @@ pub fn decimal_len(value: u64) -> usize
 pub fn write_decimal(out: &mut [u8], at: usize, value: u64)
     ensures { out.new ≡ (write_at out.old at (decimal_of value)).output }
 {
+    // A number of one digit needs no loop.
+    if value < 10 {
+        if at < out.len() {
+            out[at] = b'0' + value as u8;
+        }
+        return;
+    }
     let n = decimal_len(value);
     if out.len().saturating_sub(at) < n {
         return;

@@ -13,3 +13,6 @@ pub returns : goal.returns
 returns c =
     let e = c.checked_ilog10.ensures in
     ap (λ (k : ℕ). k + 1) c.unwrap_or.ensures ∙ counted c.args.value c.checked_ilog10.result e.none e.power_le e.next_power_gt
+
+pub returns-then-value-lt10 : goal.returns-then-value-lt10
+returns-then-value-lt10 c = sym (ap length (decimal-last c.args.value c.if-value-lt10.true))

@@ -91,6 +91,21 @@ module _ {out₀ : List ℕ} {at value : ℕ} {out : List ℕ} {rest : ℕ} wher
       ∙ sets-eq (decimal_of value) out₀ at f
       ∙ (fits-outcome out₀ at (decimal_of value) f).1
 
+-- a number of one digit that fits is written by one store
+one-digit : (out : List ℕ) (at v : ℕ) → v < 10 → at < length out → set out at (48 + v) ≡ (write_at out at (decimal_of v)).output
+unfolding overwrite
+one-digit out at v h l =
+    let e = decimal-last v h in
+    let f : at + length (decimal_of v) ≤ length out = omega (arith, ap length e) in
+    ap (sets out at) (sym e) ∙ sets-eq (decimal_of v) out at f ∙ (fits-outcome out at (decimal_of v) f).1
+
+pub returns-then-at-out : goal.returns-then-at-out
+returns-then-at-out c = one-digit c.args.out.now c.args.at c.args.value c.if-value-lt10.true c.if-at-out.true
+
+pub returns-else-at-out : goal.returns-else-at-out
+returns-else-at-out c =
+    let a = c.args in short a.out.now a.at a.value (λ some. omega (arith, c.if-at-out.false))
+
 pub returns-then-saturating_sub-n : goal.returns-then-saturating_sub-n
 returns-then-saturating_sub-n c =
     let a = c.args in short a.out.now a.at a.value (λ some. omega arith)
