@@ -1,6 +1,6 @@
 -- `is_valid` meets its contract: the clauses in the order in which the storage is read are those of a valid state, and the first that fails decides.
 -- Assumes nothing.
-use Rattle.std.proofs.Common.{Bool, ◌≡◌, ◌&&◌, ◌∙◌, refl, sym, ◌+◌, ◌-◌, arith, rules, tests, le-leb, drop, take, List}
+use Rattle.std.proofs.Common.{Bool, ◌≡◌, ◌&&◌, ◌∙◌, refl, sym, ◌+◌, ◌-◌, ◌≤◌, ℕ, arith, rules, tests, le-leb, drop, take, List}
 use Rattle.std.proofs.lemmas.Bool.{false≢true}
 use Rattle.std.specs.List.{list_all}
 use Rattle.std.proofs.lemmas.List.{drop-take}
@@ -21,6 +21,13 @@ all-passes : (p : Flow → Bool) (fs : List Flow) → list_all p fs ≡ all_of p
 unfolding all_of
 all-passes p fs = same_from_clauses (list_all p) (all_of p) (λ f b. p f && b) refl (λ _ _. refl) (λ _ _. refl) fs
 
+-- the records from one place up to another, where these are the count and 512
+part : (count first end : ℕ) (fs : List Flow) → first ≡ count → end ≡ 512 → count ≤ 512
+    → take (end - first) (drop first fs) ≡ drop count (take 512 fs)
+part count first end fs p q l =
+    let whole : count + (512 - count) ≡ 512 = omega (arith, l) in
+    rw (p, q) (sym (rw whole at (drop-take count (512 - count) fs)))
+
 pub returns-then-t-gt512 : goal.returns-then-t-gt512
 returns-then-t-gt512 c =
     let s = state_in c.args.t.now in
@@ -30,10 +37,9 @@ pub returns-then-flows_valid : goal.returns-then-flows_valid
 unfolding flows_of
 returns-then-flows_valid c =
     let t = c.args.t.now in
-    let whole : t.header.count + (512 - t.header.count) ≡ 512 = omega arith in
-    let unused = rw whole at (drop-take t.header.count (512 - t.header.count) t.flows.now) in
     let told =
-    all_from_yields_List is_no_flow _ _ _ c.all.ensures.ran (YieldsList-from_slice _ (c.iter.ensures.rest ∙ sym unused))
+    all_from_yields_List is_no_flow _ _ _ c.all.ensures.ran
+    (YieldsList-from_slice _ (c.iter.ensures.rest ∙ part t.header.count _ _ t.flows.now (omega arith) (omega arith) (omega arith)))
     (λ x b q k. search (rules, tests))
     ∙ all-passes is_no_flow (drop t.header.count (take 512 t.flows.now)) in
     elim c.if-containers_valid.branch [
