@@ -1,5 +1,5 @@
--- The sets found, from pass to pass: the sets that a pass changes lie between two containers, and what lies there is
--- copied again after it. Assumes nothing.
+-- The sets found, from pass to pass: which containers' sets may differ from those of now (they are out), and what copying
+-- a part of them, or all, makes of it. Assumes nothing.
 use Rattle.std.specs.Prelude.{◌≡◌, ◌⊎◌, ◌≢◌, ℕ, ◌+◌, ◌-◌, ◌*◌, ◌≤◌, ◌<◌, min, max}
 use Rattle.std.specs.Prelude.{List, ◌++◌, length, get_or, take, drop}
 use Rattle.std.specs.List.{between}

@@ -16,7 +16,7 @@ pub struct Header {
 }
 
 impl Header {
-    // The header of no tracker: what a refused start answers.
+    // The header of no tracker: what a refused start answers for C, and a replay that did not begin.
     pub const NONE: Header = Header {
         containers: 0,
         count: 0,

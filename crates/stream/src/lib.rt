@@ -3,8 +3,8 @@
 //
 // Of a reader whose bytes are known the contracts say which it gave; which bytes a file or standard input brings and a
 // write takes no contract can say. A function `try_..` writes what the one without `try_` does, and answers Ok only
-// where all of it came; where it answers Err, or nothing is answered, a beginning, perhaps nothing, may be all that
-// came. The functions without `try_` stay beside those, since they cannot fail.
+// where all of the text came, or all of the line; where it answers Err, or nothing is answered, a beginning, perhaps
+// nothing, may be all that came. The functions without `try_` stay beside those, since they cannot fail.
 #![tactic(auto)]
 
 ghost use Rattle.std.specs.Prelude.{◌≡◌, ◌↔◌, map, length, IsTrue, OnOk};
