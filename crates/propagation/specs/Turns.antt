@@ -1,11 +1,9 @@
 -- What the functions of propagation need: an edge that changes nothing, and what is known of edges carried and of
 -- passes made. How these grow flow by flow and pass by pass is in proofs/Turns.antt. Assumes nothing.
-use Rattle.std.specs.Prelude.{◌≡◌, refl, Bool, true, false, ◌&&◌, not, cond, ◌⊎◌, ◌≢◌, ℕ, ◌+◌, ◌≤◌, ◌<◌, min, max, length, set}
-use Rattle.std.proofs.Common.{sym, ap, ◌∙◌, inr, ⊎_elim, arith}
+use Rattle.std.specs.Prelude.{◌≡◌, refl, Bool, true, false, ◌&&◌, not, cond, ◌⊎◌, ◌≢◌, ℕ, ◌+◌, ◌≤◌, ◌<◌, length, set}
+use Rattle.std.proofs.Common.{sym, ap, ◌∙◌, ⊎_elim, arith}
 use Rattle.std.proofs.lemmas.Bool.{not-false}
 use mathlib.Core.List.{List, []}
-use Rattle.std.proofs.Math.Logic.{by_cases}
-use Rattle.std.proofs.Math.Decide.{dec_lt}
 use borrow.Table.Steps.{cases}
 use Rattle.model.specs.declared.Flow.{Flow}
 use Rattle.model.specs.Model.{edges, edges_of}
@@ -18,7 +16,7 @@ use Rattle.state.proofs.LayoutLaws.{set-fits}
 use Rattle.tagstore.specs.Store.{put_set}
 use Rattle.tagstore.proofs.Put.{put_same, put-other-set}
 use Rattle.propagation.specs.Pass.{inside, carried, new_tags, carried_all, new_in_all, passed, new_in_passes, passes_of}
-use Rattle.propagation.specs.Found.{Found, Part, part-more, found-wider}
+use Rattle.propagation.specs.Found.{Found, found-wider}
 use Rattle.propagation.specs.Listed.{Listed, found-more}
 use Rattle.propagation.specs.Exact.{inside-iff, edge-inside, edge-outside, passes-some}
 
@@ -73,28 +71,14 @@ pub carried_none : (n : ℕ) (found ws : List ℕ) → Carried n found (edges_of
 unfolding carried_all new_in_all edges_of
 carried_none n found ws = record { sets = refl; count = refl }
 
--- a flow that adds tags has its destination below n
-pub adds-inside : {n : ℕ} {found ws ws' : List ℕ} (f : Flow) {new : ℕ} → Carried n found (edges f) ws ws' new
-    → new ≢ 0 → f.to < n
-unfolding new_in_all
-adds-inside {n} {found} {ws} f made some =
-    by_cases (dec_lt f.to n) (λ l. l)
-    (λ l. absurd (some (omega (arith, made.count, (edge-past n found (f.from, f.to) ws (inr (omega (arith, l)))).1))))
-
--- and leaves the sets of containers other than it
+-- a flow leaves the sets of containers other than its destination
 carried-others : {n : ℕ} {found ws ws' : List ℕ} (f : Flow) {new : ℕ} → Carried n found (edges f) ws ws' new
     → (a : ℕ) → a ≢ f.to → set_at ws' a ≡ set_at ws a
 unfolding carried_all
 carried-others {n} {found} {ws} f made a h =
     ap (λ (l : List ℕ). set_at l a) made.sets ∙ edge_other n found (f.from, f.to) ws a h
 
--- the sets found are then those of the words but for a part that has its destination
-pub found-carried : {n first end : ℕ} {found ws ws' : List ℕ} (f : Flow) {new : ℕ}
-    → Carried n found (edges f) ws ws' new → Found n (Part first end) found ws
-    → Found n (Part (min first f.to) (max end (f.to + 1))) found ws'
-found-carried f made now = part-more f.to now (carried-others f made)
-
--- or for a list in which it stands
+-- the sets found are then those of the words but for a list in which its destination stands
 pub found-listed : {n : ℕ} (changed : List ℕ) (m : ℕ) {found ws ws' : List ℕ} (f : Flow) {new : ℕ} → m < length changed
     → Carried n found (edges f) ws ws' new → Found n (Listed changed 0 m) found ws
     → Found n (Listed (set changed m f.to) 0 (m + 1)) found ws'

@@ -1,11 +1,11 @@
 // Tags carried along the enabled flows (document 01: the spread), pass by pass, up to the first pass that adds none.
 #![tactic(auto)]
 
-ghost use Rattle.std.specs.Prelude.{◌≡◌, ℕ, ◌*◌, ◌≤◌, ◌<◌, length};
+ghost use Rattle.std.specs.Prelude.{◌≡◌, ℕ, ◌*◌, ◌≤◌, ◌<◌, ◌++◌, length, take, drop};
 ghost use Rattle.state.specs.State.{set_at};
 ghost use Rattle.state.specs.Layout.{Fit64};
 ghost use Rattle.model.specs.Model.{edges, edges_of};
-ghost use Rattle.propagation.specs.Found.{Found, copied};
+ghost use Rattle.propagation.specs.Found.{Found};
 ghost use Rattle.propagation.specs.Listed.{Listed, WithRoom};
 ghost use Rattle.propagation.specs.Pass.{carried, new_tags, carried_all, new_in_all, passed, new_in_passes, passes_of, pass_count, sets_after, pairs_added};
 
@@ -139,7 +139,7 @@ impl Sets<'_> {
 
     // Copies all the sets.
     fn copy_sets(&self, found: &mut [u64; 1024])
-        ensures { found.new ≡ copied 0 self.now.n self.now.words.now found.old }
+        ensures { found.new ≡ take (4 * self.now.n) self.now.words.now ++ drop (4 * self.now.n) found.old }
     {
         let end = 4 * (self.n as usize);
         found[..end].copy_from_slice(&self.words[..end]);

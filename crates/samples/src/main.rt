@@ -214,8 +214,8 @@ fn ask<W: Write>(out: &mut W, line: &Line, bytes: &[u8], tracker: &Tracker) -> i
     }
 }
 
-// The words on numbers, logs and sets. `room` is done already. A line that is empty, or begins with # or a byte of 0, is
-// a note; one that begins with a space has an empty word, which is none.
+// The words on numbers, logs and sets. `room` is done already. A line that is empty, or begins with # or a byte of 0,
+// is a note; one that begins with a space has an empty word, which is none.
 fn read<W: Write>(out: &mut W, line: &Line, bytes: &[u8]) -> io::Result<()> {
     match line.word {
         b"number" => numbers::number(out, line),

@@ -36,8 +36,8 @@ pub fn read_to_end<R: Read>(reader: &mut R, buf: &mut [u8]) -> io::Result<usize>
     Ok(done)
 }
 
-// What a read says that answered `read`: how many bytes came, 0 at the end, or None where it was interrupted, so that it
-// is tried again. Any other failure is handed on as it is.
+// What a read says that answered `read`: how many bytes came, 0 at the end, or None where it was interrupted, so that
+// it is tried again. Any other failure is handed on as it is.
 fn unless_interrupted(read: io::Result<usize>) -> io::Result<Option<usize>>
     ensures { result ≡ step_of read }
 {

@@ -6,9 +6,10 @@ use Rattle.model.specs.declared.Flow.{Flow}
 use Rattle.model.specs.Model.{edges, edges_of}
 use Rattle.state.specs.State.{set_at, no_flow}
 use Rattle.propagation.specs.Exact.{passes-most}
-use Rattle.propagation.specs.Found.{found-all, found-among, all-copied}
+use Rattle.propagation.specs.Found.{found-all, found-among}
 use Rattle.propagation.specs.Listed.{room-front}
 use Rattle.propagation.specs.Turns.{Carried, found-changed, carried_none, none_made}
+use Rattle.propagation.proofs.Copied.{copied-set}
 use Rattle.propagation.proofs.Turns.{carried-fits, flow-carried, gain-fits, one-made, all_made}
 use Rattle.propagation.proofs.Sets.make_passes.Goals as goal
 use Rattle.propagation.proofs.Sets.make_passes.Goals.{At-passes, After-loop-flow, After-carry_flow-new}
@@ -50,7 +51,7 @@ passes-init c = record {
   place = refl;
   long = c.type_inv.found;
   found = λ a l. ap (λ (x : List ℕ). set_at x a) c.copy_sets.ensures
-      ∙ all-copied c.args.self.now.n c.args.self.now.words.now _ (omega arith) (omega arith) a l;
+      ∙ copied-set c.args.self.now.n c.args.self.now.words.now _ a (omega arith) l;
   made = none_made _ _ _;
 }
 
