@@ -304,8 +304,15 @@ fn collect(collected: Collected, limit: Duration) -> io::Result<Vec<u8>> {
         Collected::Nowhere => Ok(vec![]),
         Collected::Pipe(receiver) => receiver.recv_timeout(limit).map_err(io::Error::other),
         Collected::File(mut file, before) => {
-            let mut bytes = Vec::new();
-            file.read_to_end(&mut bytes)?;
+            let (begin, mut bytes) = (Instant::now(), Vec::new());
+            // A program that another thread is just starting holds every open end until it runs: so long a FIFO that
+            // nobody writes to any more does not end, but would wait.
+            while let Err(error) = file.read_to_end(&mut bytes) {
+                if error.kind() != io::ErrorKind::WouldBlock || begin.elapsed() > limit {
+                    return Err(error);
+                }
+                thread::sleep(Duration::from_millis(1));
+            }
             Ok(bytes.split_off(before.min(bytes.len())))
         }
     }
