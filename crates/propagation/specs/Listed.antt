@@ -1,6 +1,6 @@
 -- The sets found, where the containers whose sets a pass changes are listed one by one, and these sets are copied again
--- after it. The laws say of any list what Found.antt says of a part. A pass keeps a list while it has room. Assumes
--- nothing.
+-- after it. The laws say of a list what Found.antt says of any containers. A pass keeps a list while it has room.
+-- Assumes nothing.
 use Rattle.std.specs.Prelude.{◌≡◌, ◌≢◌, List, ℕ, ◌+◌, ◌*◌, ◌/◌, ◌≤◌, ◌<◌, length, get_or, set, take, leb}
 use Rattle.std.proofs.Common.{sym, ap, ◌∙◌, inl, inr, ⊎_elim, arith, get_or-set_same, get_or-set_other}
 use Rattle.std.proofs.Common.{get_or-take, length-take-le}
